@@ -1,0 +1,3 @@
+pub mod Difference
+pub mod Signs
+pub mod Turns
