@@ -134,7 +134,10 @@ pub fn mulxuu(a: u32, b: u32) -> u32
 pub fn mulxss(a: u32, b: u32) -> u32
     ensures { λ r. ⌜ r ≡ mulxssOf a b ⌝ }
 {
-    upper(is_negative(a) != is_negative(b), product(magnitude(a), magnitude(b)))
+    upper(
+        is_negative(a) != is_negative(b),
+        product(magnitude(a), magnitude(b)),
+    )
 }
 
 pub fn mulxsu(a: u32, b: u32) -> u32
