@@ -1,0 +1,4 @@
+pub mod Access
+pub mod Maps
+pub mod Machine
+pub mod Demand
