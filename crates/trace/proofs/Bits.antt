@@ -53,10 +53,15 @@ unless-clear x y e = rw e
 pub unless-set : {b : ℕ} (x y : List ℕ) → b ≡ 1 → unless b x y ≡ y
 unless-set x y e = rw e
 
--- whichever is chosen
-pub unless-either : (P : List ℕ → Type 0) (b : ℕ) (x y : List ℕ) → P x → P y → P (unless b x y)
-unless-either P zero x y p q = p
-unless-either P (suc b) x y p q = q
+pub unless-length : (b : ℕ) (l : List ℕ) (k : ℕ) → length (unless b (setBit l k) l) ≡ length l
+unless-length zero l k = setBit-length l k
+unless-length (suc b) l k = refl
+
+pub unless-other : (b : ℕ) (l : List ℕ) (k j : ℕ) → j ≢ k → bit (unless b (setBit l k) l) j ≡ bit l j
+unless-other zero l k j f = setBit-other l k j f
+unless-other (suc b) l k j f = refl
+
+-- ---- cleared
 
 pub clear-bit : (n k : ℕ) → k / 8 < n → bit (replicate n 0) k ≡ 0
 clear-bit n k h = rw (getD-replicate {A = ℕ} n (k / 8) 0 0 h, zero-div)

@@ -10,7 +10,7 @@ use lib.ListN.{length, length-replicate}
 use Rattle.trace.specs.Access.{Access, reads, stores, Stored, ReadFirst}
 use Rattle.trace.specs.Maps.{bit, setBit, unless, Maps, mark1, mark, cleared}
 use Rattle.trace.proofs.Accesses.{reads-one, stores-one, no-store, stored?}
-use Rattle.trace.proofs.Bits.{bit-cases, setBit-length, setBit-same, setBit-other, unless-clear, unless-set, unless-either, clear-bit}
+use Rattle.trace.proofs.Bits.{bit-cases, setBit-length, setBit-same, setBit-other, unless-clear, unless-set, unless-length, unless-other, clear-bit}
 
 pub mark-append : (s t : List Access) (p : Maps) → mark (s ++ t) p ≡ mark t (mark s p)
 mark-append [] t p = refl
@@ -19,23 +19,39 @@ mark-append (a ∷ s) t p = mark-append s t (mark1 a p)
 clash : {b : ℕ} → b ≡ 1 → b ≡ 0 → ⊥
 clash e f = omega arith
 
+-- ---- the maps keep their lengths
+
+pub record Lengths (p q : Maps) : Type 0 where
+  pub readFirst : length (p .readFirst) ≡ length (q .readFirst)
+  pub written : length (p .written) ≡ length (q .written)
+
+mark1-lengths : (a : Access) (p : Maps) → Lengths (mark1 a p) p
+mark1-lengths (reads j) p = record {
+  readFirst = rw unless-length;
+  written = refl;
+}
+mark1-lengths (stores j) p = record { readFirst = refl; written = omega (arith, setBit-length (p .written) j) }
+
+pub mark-lengths : (l : List Access) (p : Maps) → Lengths (mark l p) p
+mark-lengths [] p = record { readFirst = refl; written = refl }
+mark-lengths (a ∷ l) p =
+    let x = mark-lengths l (mark1 a p) in
+    let y = mark1-lengths a p in
+    record { readFirst = x .readFirst ∙ y .readFirst; written = x .written ∙ y .written }
+
 -- both maps have a bit for the byte k
-pub record Has (p : Maps) (k : ℕ) : Type 0 where
-  pub first : k / 8 < length (p .readFirst)
-  pub written : k / 8 < length (p .written)
+record Has (p : Maps) (k : ℕ) : Type 0 where
+  first : k / 8 < length (p .readFirst)
+  written : k / 8 < length (p .written)
 
 has-mark1 : (a : Access) (p : Maps) (k : ℕ) → Has p k → Has (mark1 a p) k
-has-mark1 (reads j) p k h = record {
-  first = unless-either (λ l. k / 8 < length l) (bit (p .written) j) (setBit (p .readFirst) j) (p .readFirst) (rw (setBit-length (p .readFirst) j) (h .first)) (h .first);
-  written = h .written;
-}
-has-mark1 (stores j) p k h = record { first = h .first; written = rw (setBit-length (p .written) j) (h .written) }
+has-mark1 a p k h = record { first = omega (arith, mark1-lengths a p .readFirst); written = omega (arith, mark1-lengths a p .written) }
 
 -- ---- one access
 
 -- a read of j marks no other byte
 read-other : (p : Maps) (j k : ℕ) → k ≢ j → bit (mark1 (reads j) p .readFirst) k ≡ bit (p .readFirst) k
-read-other p j k f = unless-either (λ l. bit l k ≡ bit (p .readFirst) k) (bit (p .written) j) (setBit (p .readFirst) j) (p .readFirst) (setBit-other (p .readFirst) j k f) refl
+read-other p j k f = rw unless-other
 
 one-first : (a : Access) (p : Maps) (k : ℕ) → Has p k
     → (bit (mark1 a p .readFirst) k ≡ 1) ↔ ((bit (p .readFirst) k ≡ 1) ⊎ ((bit (p .written) k ≡ 0) × (a ≡ reads k)))

@@ -4,9 +4,9 @@ use mathlib.Core.Path.{_≡_, refl, _∙_}
 use mathlib.Core.List.{List, [], _++_}
 use Prim.Native.Nat.{ℕ, zero, suc}
 use lib.ListN.{length}
-use Rattle.trace.specs.Access.{Access, reads, each, Stored, number}
+use Rattle.trace.specs.Access.{Access, Stored, number}
 use Rattle.trace.specs.Machine.{After, stop, go, load, store, Attempt, halt, quiet, fetch, Machine, Outcome, stopped, stepped}
-use Rattle.trace.specs.Machine.{Run, finish, perform, dataOf, touched, continue, run}
+use Rattle.trace.specs.Machine.{Run, finish, perform, fetched, dataOf, touched, continue, run}
 use Rattle.trace.proofs.Accesses.{stored-left, stored-right}
 use Rattle.trace.proofs.Bytes.{Same, put-length, put-keeps}
 
@@ -31,20 +31,20 @@ module _ {R C : Type 0} where
 
   finish-leaves : (s : List Access) (F : After R C) (m : List ℕ) → Leaves m (s ++ dataOf F) (finish F m)
   finish-leaves s (stop r) m = tt
-  finish-leaves s (go c) m = unchanged m (s ++ [])
-  finish-leaves s (load a w q) m = unchanged m (s ++ each reads a w)
+  finish-leaves s (go c) m = unchanged m _
+  finish-leaves s (load a w q) m = unchanged m _
   finish-leaves s (store a w v c) m = joined (unchanged m s) (record { size = put-length m a w v; bytes = put-keeps m a w v })
 
   perform-leaves : (A : Attempt R C) (m : List ℕ) → Leaves m (touched A m) (perform A m)
   perform-leaves (halt r) m = tt
-  perform-leaves (quiet c) m = unchanged m []
-  perform-leaves (fetch a f) m = finish-leaves (each reads a 4) (f (number m a 4)) m
+  perform-leaves (quiet c) m = unchanged m _
+  perform-leaves (fetch a f) m = finish-leaves (fetched a) (f (number m a 4)) m
 
   continue-keeps : (c : C) (m : List ℕ) (t : List Access) (o : Outcome R C) (K : C → List ℕ → Run R C)
       → Leaves m t o → ((d : C) (n : List ℕ) → Keeps n (K d n .accesses) (K d n .memory)) → Keeps m (continue c m t o K .accesses) (continue c m t o K .memory)
-  continue-keeps c m t (stopped r) K x y = unchanged m t
+  continue-keeps c m t (stopped r) K x y = unchanged m _
   continue-keeps c m t (stepped d n) K x y = joined x (y d n)
 
   pub run-keeps : (M : Machine R C) (budget : ℕ) (c : C) (m : List ℕ) → Keeps m (run M budget c m .accesses) (run M budget c m .memory)
-  run-keeps M zero c m = unchanged m []
+  run-keeps M zero c m = unchanged m _
   run-keeps M (suc b) c m = continue-keeps c m (touched (M .attempt c) m) (perform (M .attempt c) m) (run M b) (perform-leaves (M .attempt c) m) (run-keeps M b)

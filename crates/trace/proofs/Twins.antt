@@ -7,7 +7,7 @@ use Prim.Native.Nat.{ℕ, zero, suc}
 use lib.ListN.{length}
 use Rattle.trace.specs.Access.{Access, reads, stores, each, Stored, ReadFirst, number, put}
 use Rattle.trace.specs.Machine.{After, stop, go, load, store, Attempt, halt, quiet, fetch, Machine, Outcome, stopped, stepped}
-use Rattle.trace.specs.Machine.{Run, finish, perform, dataOf, touched, continue, run}
+use Rattle.trace.specs.Machine.{Run, finish, perform, fetched, dataOf, touched, continue, run}
 use Rattle.trace.proofs.Accesses.{stored?, stored-cases, first-left, first-right, reads-only}
 use Rattle.trace.proofs.Bytes.{Same, Agree, same-number, put-length, put-same}
 
@@ -56,10 +56,10 @@ module _ {R C : Type 0} (m m′ : List ℕ) (len : length m ≡ length m′) whe
   attempt-alike (quiet c) g = (refl, both-stepped c m m′ (still m m′ len [] (λ k h. h)))
   attempt-alike (fetch a f) g =
       let F = f (number m a 4) in
-      let word : number m a 4 ≡ number m′ a 4 = same-number m m′ a 4 (λ k h. g k (first-left k (each reads a 4) (dataOf F) h)) in (
-        ap (λ (x : ℕ). each reads a 4 ++ dataOf (f x)) word,
-        subst (λ (x : ℕ). Alike m m′ (each reads a 4 ++ dataOf F) (finish F m) (finish (f x) m′)) word
-            (finish-alike (each reads a 4) (λ k. reads-only k a 4) F (λ k h. g k (first-right k (each reads a 4) (dataOf F) (reads-only k a 4) h))),
+      let word : number m a 4 ≡ number m′ a 4 = same-number m m′ a 4 (λ k h. g k (first-left k (fetched a) (dataOf F) h)) in (
+        ap (λ (x : ℕ). fetched a ++ dataOf (f x)) word,
+        subst (λ (x : ℕ). Alike m m′ (fetched a ++ dataOf F) (finish F m) (finish (f x) m′)) word
+            (finish-alike (fetched a) (λ k. reads-only k a 4) F (λ k h. g k (first-right k (fetched a) (dataOf F) (reads-only k a 4) h))),
       )
 
   attempt-agree : (c : C) (t : List Access) (o : Outcome R C) (K : C → List ℕ → Run R C) → Agree m m′ (continue c m t o K .accesses) → Agree m m′ t

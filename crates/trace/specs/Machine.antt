@@ -36,6 +36,10 @@ pub record Run (R C : Type 0) : Type 0 where
   pub memory : List ℕ
   pub accesses : List Access
 
+-- the four bytes of a fetch
+abbrev pub fetched : ℕ → List Access
+fetched a = each reads a 4
+
 module _ {R C : Type 0} where
   -- ---- what an attempt does
 
@@ -61,7 +65,7 @@ module _ {R C : Type 0} where
   abbrev pub touched : Attempt R C → List ℕ → List Access
   touched (halt r) m = []
   touched (quiet c) m = []
-  touched (fetch a f) m = each reads a 4 ++ dataOf (f (number m a 4))
+  touched (fetch a f) m = fetched a ++ dataOf (f (number m a 4))
 
   -- ---- a run: steps until the budget is spent or a step stops
 

@@ -1,3 +1,4 @@
 pub mod Difference
 pub mod Signs
 pub mod Turns
+pub mod Meaning
