@@ -1,15 +1,15 @@
 -- A map's bits after one of them is set: that one is 1, every other stays, and so does the length.
 -- Assumes nothing.
-use mathlib.Core.Path.{_≡_, refl, sym, ap, _∙_}
+use mathlib.Core.Path.{_≡_, refl}
 use mathlib.Core.Logic.{_⊎_, inl, inr, _≢_, by-cases}
 use mathlib.Core.List.{List}
-use Prim.Native.Nat.{ℕ, zero, suc, _+_, _-_, _*_, _/_, _%_, _^_, _<_, max}
+use Prim.Native.Nat.{ℕ, zero, suc, _+_, _-_, _/_, _%_, _^_, _<_, max}
 use native.Mathlib.Omega.{arith}
 use native.Mathlib.Decide.{ℕ-discrete, decLt}
 use native.Mathlib.Nat.{div-self, div-eq-of-lt, mul-mod-left, max-zero, pow-suc, zero-div}
 use lib.Bits.{bitOr, or-shr, or-step}
 use lib.Pow.{pow-pos, pow-lt, pow-add, shl-shr}
-use lib.ListN.{length, getD, set, length-set, replicate, getD-replicate}
+use lib.ListN.{length, length-set, replicate, getD-replicate}
 use lib.Seq.{getD-set-same, getD-set-other, set-out}
 use Rattle.trace.specs.Maps.{bit, setBit, unless}
 

@@ -1,6 +1,6 @@
 -- The maps after a list of accesses is marked in them: exactly its first reads and its stores.
 -- Assumes nothing.
-use mathlib.Core.Path.{_≡_, refl, sym, ap, _∙_}
+use mathlib.Core.Path.{_≡_, refl, sym, _∙_}
 use mathlib.Core.Logic.{_⊎_, inl, inr, _≢_, _↔_, by-cases}
 use mathlib.Core.List.{List, [], _∷_, _++_}
 use Prim.Native.Nat.{ℕ, _*_, _/_, _<_}
@@ -8,7 +8,7 @@ use native.Mathlib.Omega.{arith}
 use native.Mathlib.Decide.{ℕ-discrete}
 use lib.ListN.{length, length-replicate}
 use Rattle.trace.specs.Access.{Access, reads, stores, Stored, ReadFirst}
-use Rattle.trace.specs.Maps.{bit, setBit, unless, Maps, mark1, mark, cleared}
+use Rattle.trace.specs.Maps.{bit, setBit, Maps, mark1, mark, cleared}
 use Rattle.trace.proofs.Accesses.{reads-one, stores-one, no-store, stored?}
 use Rattle.trace.proofs.Bits.{bit-cases, setBit-length, setBit-same, setBit-other, unless-clear, unless-set, unless-length, unless-other, clear-bit}
 

@@ -1,7 +1,7 @@
 -- What every run keeps: the memory's length, and each byte that it does not store to.
 -- Assumes nothing.
 use mathlib.Core.Path.{_≡_, refl, _∙_}
-use mathlib.Core.List.{List, [], _++_}
+use mathlib.Core.List.{List, _++_}
 use Prim.Native.Nat.{ℕ, zero, suc}
 use lib.ListN.{length}
 use Rattle.trace.specs.Access.{Access, Stored, number}

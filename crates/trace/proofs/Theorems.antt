@@ -1,18 +1,18 @@
 -- The theorems, for any reasons, any configuration and any rule of a step. specs/Demand.antt says what each promises.
 -- Assumes nothing.
-use mathlib.Core.Path.{_≡_, refl, sym, ap, _∙_, subst}
-use mathlib.Core.Logic.{_⊎_, inl, inr, by-cases}
+use mathlib.Core.Path.{_≡_, sym, ap, _∙_, subst}
+use mathlib.Core.Logic.{inl, inr, by-cases}
 use mathlib.Core.List.{List}
-use Prim.Native.Nat.{ℕ, _*_, _<_}
+use Prim.Native.Nat.{ℕ, _*_}
 use native.Mathlib.Omega.{arith}
 use native.Mathlib.Decide.{decLt}
 use lib.ListN.{length, getD, List·getD-eq-default}
-use Rattle.trace.specs.Access.{Access, Stored, ReadFirst}
-use Rattle.trace.specs.Maps.{bit, mark, cleared}
+use Rattle.trace.specs.Access.{Access, Stored}
+use Rattle.trace.specs.Maps.{mark, cleared}
 use Rattle.trace.specs.Machine.{Machine, run, answer}
 use Rattle.trace.specs.Demand.{Exactly, Edit, Survives}
 use Rattle.trace.proofs.Marks.{exact-first, exact-written, not-written}
-use Rattle.trace.proofs.Bytes.{Same, Agree}
+use Rattle.trace.proofs.Bytes.{Agree}
 use Rattle.trace.proofs.Runs.{run-keeps}
 use Rattle.trace.proofs.Twins.{Twins, run-twins}
 

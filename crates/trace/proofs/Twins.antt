@@ -5,7 +5,7 @@ use mathlib.Core.Logic.{_⊎_, inl, inr, by-cases}
 use mathlib.Core.List.{List, [], _++_}
 use Prim.Native.Nat.{ℕ, zero, suc}
 use lib.ListN.{length}
-use Rattle.trace.specs.Access.{Access, reads, stores, each, Stored, ReadFirst, number, put}
+use Rattle.trace.specs.Access.{Access, reads, stores, each, Stored, number, put}
 use Rattle.trace.specs.Machine.{After, stop, go, load, store, Attempt, halt, quiet, fetch, Machine, Outcome, stopped, stepped}
 use Rattle.trace.specs.Machine.{Run, finish, perform, fetched, dataOf, touched, continue, run}
 use Rattle.trace.proofs.Accesses.{stored?, stored-cases, first-left, first-right, reads-only}

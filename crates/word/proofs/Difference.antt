@@ -7,7 +7,7 @@ use native.Mathlib.Nat.{mod-eq-of-lt, mod-eq-sub-mod}
 use native.Mathlib.Decide.{decLt}
 use native.Mathlib.Omega.{arith}
 use borrow.Author.Tests.{lt-ltb, le-ltb}
-use lib.IntN.{ℤ, pos, negsuc, negℤ, subℕ}
+use lib.IntN.{pos, negsuc, negℤ, subℕ}
 use Rattle.word.specs.Integer.{modulo}
 
 pub subℕ-less : (a b : ℕ) → a < b → subℕ a b ≡ negsuc (b - suc a)

@@ -1,9 +1,9 @@
 -- Rotations: what a shift drops at one end comes in at the other.
 -- Assumes nothing.
-use mathlib.Core.Path.{_≡_, refl, sym, ap, _∙_, subst}
+use mathlib.Core.Path.{_≡_, subst}
 use mathlib.Core.Logic.{by-cases}
-use Prim.Native.Nat.{ℕ, zero, suc, _+_, _-_, _*_, _/_, _%_, _^_, _≤_, _<_}
-use native.Mathlib.Nat.{add-comm, add-zero, mul-mod-left, mod-eq-of-lt}
+use Prim.Native.Nat.{ℕ, _+_, _-_, _*_, _/_, _%_, _^_, _<_}
+use native.Mathlib.Nat.{add-comm, add-zero, mul-mod-left}
 use native.Mathlib.Decide.{ℕ-discrete}
 use native.Mathlib.Omega.{arith}
 use lib.Bits.{bitOr, or-shifted, or-self}

@@ -4,7 +4,7 @@ use Prim.Native.Nat.{ℕ, _+_, _-_, _*_, _/_, _%_, _^_}
 use mathlib.Core.Bool.{Bool, _&&_, cond}
 use lib.Dec.{ltb, eqb}
 use lib.Bits.{bitAnd, bitOr, bitXor}
-use lib.IntN.{ℤ, subℕ, _*ℤ_}
+use lib.IntN.{subℕ, _*ℤ_}
 use lib.Signed.{ltZ, quotZ, shrZ}
 use Rattle.word.specs.Integer.{signedBits, signed, unsigned, wordOf, upperOf}
 use Rattle.word.specs.declared.Quotient.{Quotient}

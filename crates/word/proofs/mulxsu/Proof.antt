@@ -1,6 +1,5 @@
 -- `word::mulxsu` meets its contract: a product by sign and magnitude, where rB has no sign.
 -- Assumes nothing.
-use mathlib.Core.Path.{sym, ap}
 use Rattle.word.specs.Word.{mulxsuOf}
 use Rattle.word.specs.Integer.{signed, unsigned}
 use Rattle.word.proofs.Signs.{product-by-signs, one-sign}
