@@ -52,7 +52,7 @@ opList =
     row 0x1C Xori ∷ row 0x1E Bne ∷ row 0x20 Cmpeqi ∷ row 0x24 Muli ∷ row 0x26 Beq ∷ row 0x28 Cmpgeui ∷
     row 0x2C Andhi ∷ row 0x2E Bgeu ∷ row 0x30 Cmpltui ∷ row 0x32 Custom ∷ row 0x33 Initd ∷ row 0x34 Orhi ∷
     row 0x36 Bltu ∷ row 0x3B Flushd ∷ row 0x3C Xorhi ∷
-    -- the io forms of 03, 05, 07, 0B, 0D, 0F, 15, 17
+    -- 3A, R-type, goes by OPX; these are the io forms of 03, 05, 07, 0B, 0D, 0F, 15, 17
     row 0x23 Ldbuio ∷ row 0x25 Stbio ∷ row 0x27 Ldbio ∷ row 0x2B Ldhuio ∷ row 0x2D Sthio ∷ row 0x2F Ldhio ∷ row 0x35 Stwio ∷ row 0x37 Ldwio ∷
     []
 
