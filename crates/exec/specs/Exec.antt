@@ -15,6 +15,8 @@ use Rattle.isa.specs.declared.Kind.the-variants.{Roli, Rol, Flushp, Ret, Nor, M
 use Rattle.isa.specs.declared.Kind.the-variants.{Sll, Or, Mulxsu, Cmpne, Srli, Srl, Nextpc, Callr, Xor, Mulxss, Cmpeq, Divu, Div, Rdctl}
 use Rattle.isa.specs.declared.Kind.the-variants.{Mul, Cmpgeu, Initi, Trap, Wrctl, Cmpltu, Add, Break, Sync, Sub, Srai, Sra, Outside}
 use Rattle.isa.specs.declared.Fields.{Fields}
+use Rattle.exec.specs.declared.Width.{Width}
+use Rattle.exec.specs.declared.Width.the-variants.{Byte, Half, Word}
 use Rattle.exec.specs.declared.Effect.{Effect}
 use Rattle.exec.specs.declared.Effect.the-variants as effect
 use Rattle.exec.specs.declared.Effect.the-variants.{Stop, Next, Put, Go, Link, Load, Store, Read, Write, Raise}
@@ -32,10 +34,10 @@ abbrev pub branchOf : Fields → ℕ → Bool → Effect
 branchOf f pc taken = cond taken (Go (addOf (addOf pc 4) (signedOf f))) Next
 
 -- the address is rA plus the signed immediate
-abbrev pub loadOf : Fields → ℕ → ℕ → Bool → Effect
+abbrev pub loadOf : Fields → ℕ → Width → Bool → Effect
 loadOf f a width sign = Load (f .b) (addOf a (signedOf f)) width sign
 
-abbrev pub storeOf : Fields → ℕ → ℕ → ℕ → Effect
+abbrev pub storeOf : Fields → ℕ → ℕ → Width → Effect
 storeOf f a b width = Store (addOf a (signedOf f)) width b
 
 -- without its unit, the unimplemented exception
@@ -61,22 +63,22 @@ writeOf f a = cond (ltb (f .imm5) 6) (Write (f .imm5) a) (Stop 12)
 -- mul and div: multiplier and divider present
 abbrev pub execOf : Kind → Fields → ℕ → ℕ → ℕ → Bool → Bool → Effect
 execOf Call f a b pc mul div = Link (callOf f pc)
-execOf Ldbu f a b pc mul div = loadOf f a 1 false
+execOf Ldbu f a b pc mul div = loadOf f a Byte false
 execOf Addi f a b pc mul div = Put (f .b) (addOf a (signedOf f))
-execOf Stb f a b pc mul div = storeOf f a b 1
+execOf Stb f a b pc mul div = storeOf f a b Byte
 execOf Br f a b pc mul div = branchOf f pc true
-execOf Ldb f a b pc mul div = loadOf f a 1 true
+execOf Ldb f a b pc mul div = loadOf f a Byte true
 execOf Cmpgei f a b pc mul div = Put (f .b) (flagOf (not (lessSignedOf a (signedOf f))))
-execOf Ldhu f a b pc mul div = loadOf f a 2 false
+execOf Ldhu f a b pc mul div = loadOf f a Half false
 execOf Andi f a b pc mul div = Put (f .b) (andOf a (f .imm16))
-execOf Sth f a b pc mul div = storeOf f a b 2
+execOf Sth f a b pc mul div = storeOf f a b Half
 execOf Bge f a b pc mul div = branchOf f pc (not (lessSignedOf a b))
-execOf Ldh f a b pc mul div = loadOf f a 2 true
+execOf Ldh f a b pc mul div = loadOf f a Half true
 execOf Cmplti f a b pc mul div = Put (f .b) (flagOf (lessSignedOf a (signedOf f)))
 execOf Ori f a b pc mul div = Put (f .b) (orOf a (f .imm16))
-execOf Stw f a b pc mul div = storeOf f a b 4
+execOf Stw f a b pc mul div = storeOf f a b Word
 execOf Blt f a b pc mul div = branchOf f pc (lessSignedOf a b)
-execOf Ldw f a b pc mul div = loadOf f a 4 false
+execOf Ldw f a b pc mul div = loadOf f a Word false
 execOf Cmpnei f a b pc mul div = Put (f .b) (flagOf (not (eqb a (signedOf f))))
 execOf Xori f a b pc mul div = Put (f .b) (xorOf a (f .imm16))
 execOf Bne f a b pc mul div = branchOf f pc (not (eqb a b))
@@ -93,14 +95,14 @@ execOf Orhi f a b pc mul div = Put (f .b) (orOf a (highOf (f .imm16)))
 execOf Bltu f a b pc mul div = branchOf f pc (lessOf a b)
 execOf Flushd f a b pc mul div = Next
 execOf Xorhi f a b pc mul div = Put (f .b) (xorOf a (highOf (f .imm16)))
-execOf Ldbuio f a b pc mul div = loadOf f a 1 false
-execOf Stbio f a b pc mul div = storeOf f a b 1
-execOf Ldbio f a b pc mul div = loadOf f a 1 true
-execOf Ldhuio f a b pc mul div = loadOf f a 2 false
-execOf Sthio f a b pc mul div = storeOf f a b 2
-execOf Ldhio f a b pc mul div = loadOf f a 2 true
-execOf Stwio f a b pc mul div = storeOf f a b 4
-execOf Ldwio f a b pc mul div = loadOf f a 4 false
+execOf Ldbuio f a b pc mul div = loadOf f a Byte false
+execOf Stbio f a b pc mul div = storeOf f a b Byte
+execOf Ldbio f a b pc mul div = loadOf f a Byte true
+execOf Ldhuio f a b pc mul div = loadOf f a Half false
+execOf Sthio f a b pc mul div = storeOf f a b Half
+execOf Ldhio f a b pc mul div = loadOf f a Half true
+execOf Stwio f a b pc mul div = storeOf f a b Word
+execOf Ldwio f a b pc mul div = loadOf f a Word false
 execOf Eret f a b pc mul div = effect.Eret
 execOf Roli f a b pc mul div = Put (f .c) (rolOf a (f .imm5))
 execOf Rol f a b pc mul div = Put (f .c) (rolOf a b)

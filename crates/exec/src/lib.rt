@@ -5,6 +5,13 @@ use isa::Fields;
 use isa::Kind;
 use word::Quotient;
 
+// How much a load or a store moves.
+pub enum Width {
+    Byte,
+    Half,
+    Word,
+}
+
 // What a step does to the state and to memory. Register 0 is never written.
 pub enum Effect {
     // a stop, with its reason
@@ -21,12 +28,12 @@ pub enum Effect {
     Load {
         dest: u32,
         at: u32,
-        width: u32,
+        width: Width,
         sign: bool,
     },
     Store {
         at: u32,
-        width: u32,
+        width: Width,
         value: u32,
     },
     // a register takes a control register; pc + 4
@@ -63,7 +70,7 @@ fn branch(f: Fields, pc: u32, taken: bool) -> Effect
     Effect::Next
 }
 
-fn load(f: Fields, a: u32, width: u32, sign: bool) -> Effect
+fn load(f: Fields, a: u32, width: Width, sign: bool) -> Effect
     ensures { λ r. ⌜ r ≡ loadOf f a width sign ⌝ }
 {
     Effect::Load {
@@ -74,7 +81,7 @@ fn load(f: Fields, a: u32, width: u32, sign: bool) -> Effect
     }
 }
 
-fn store(f: Fields, a: u32, b: u32, width: u32) -> Effect
+fn store(f: Fields, a: u32, b: u32, width: Width) -> Effect
     ensures { λ r. ⌜ r ≡ storeOf f a b width ⌝ }
 {
     Effect::Store {
@@ -137,22 +144,22 @@ pub fn exec(k: Kind, f: Fields, a: u32, b: u32, pc: u32, mul: bool, div: bool) -
 {
     match k {
         Kind::Call => Effect::Link(call_target(f, pc)),
-        Kind::Ldbu => load(f, a, 1, false),
+        Kind::Ldbu => load(f, a, Width::Byte, false),
         Kind::Addi => Effect::Put(f.b, word::add(a, signed(f))),
-        Kind::Stb => store(f, a, b, 1),
+        Kind::Stb => store(f, a, b, Width::Byte),
         Kind::Br => branch(f, pc, true),
-        Kind::Ldb => load(f, a, 1, true),
+        Kind::Ldb => load(f, a, Width::Byte, true),
         Kind::Cmpgei => Effect::Put(f.b, word::flag(!word::less_signed(a, signed(f)))),
-        Kind::Ldhu => load(f, a, 2, false),
+        Kind::Ldhu => load(f, a, Width::Half, false),
         Kind::Andi => Effect::Put(f.b, word::and(a, f.imm16)),
-        Kind::Sth => store(f, a, b, 2),
+        Kind::Sth => store(f, a, b, Width::Half),
         Kind::Bge => branch(f, pc, !word::less_signed(a, b)),
-        Kind::Ldh => load(f, a, 2, true),
+        Kind::Ldh => load(f, a, Width::Half, true),
         Kind::Cmplti => Effect::Put(f.b, word::flag(word::less_signed(a, signed(f)))),
         Kind::Ori => Effect::Put(f.b, word::or(a, f.imm16)),
-        Kind::Stw => store(f, a, b, 4),
+        Kind::Stw => store(f, a, b, Width::Word),
         Kind::Blt => branch(f, pc, word::less_signed(a, b)),
-        Kind::Ldw => load(f, a, 4, false),
+        Kind::Ldw => load(f, a, Width::Word, false),
         Kind::Cmpnei => Effect::Put(f.b, word::flag(a != signed(f))),
         Kind::Xori => Effect::Put(f.b, word::xor(a, f.imm16)),
         Kind::Bne => branch(f, pc, a != b),
@@ -169,14 +176,14 @@ pub fn exec(k: Kind, f: Fields, a: u32, b: u32, pc: u32, mul: bool, div: bool) -
         Kind::Bltu => branch(f, pc, word::less(a, b)),
         Kind::Flushd => Effect::Next,
         Kind::Xorhi => Effect::Put(f.b, word::xor(a, word::high(f.imm16))),
-        Kind::Ldbuio => load(f, a, 1, false),
-        Kind::Stbio => store(f, a, b, 1),
-        Kind::Ldbio => load(f, a, 1, true),
-        Kind::Ldhuio => load(f, a, 2, false),
-        Kind::Sthio => store(f, a, b, 2),
-        Kind::Ldhio => load(f, a, 2, true),
-        Kind::Stwio => store(f, a, b, 4),
-        Kind::Ldwio => load(f, a, 4, false),
+        Kind::Ldbuio => load(f, a, Width::Byte, false),
+        Kind::Stbio => store(f, a, b, Width::Byte),
+        Kind::Ldbio => load(f, a, Width::Byte, true),
+        Kind::Ldhuio => load(f, a, Width::Half, false),
+        Kind::Sthio => store(f, a, b, Width::Half),
+        Kind::Ldhio => load(f, a, Width::Half, true),
+        Kind::Stwio => store(f, a, b, Width::Word),
+        Kind::Ldwio => load(f, a, Width::Word, false),
         Kind::Eret => Effect::Eret,
         Kind::Roli => Effect::Put(f.c, word::rol(a, f.imm5)),
         Kind::Rol => Effect::Put(f.c, word::rol(a, b)),
