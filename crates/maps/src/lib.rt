@@ -1,10 +1,10 @@
 // Marks in the two lent maps. Each function asks that both maps have a bit for each of its bytes.
 ghost use mathlib.Core.Path.{_≡_};
-ghost use Prim.Native.Nat.{_+_, _*_, _/_, _%_, _^_, _<_, _≤_};
-ghost use lib.ListN.{length};
+ghost use Prim.Native.Nat.{_+_, _-_, _*_, _/_, _%_, _^_, _<_, _≤_};
+ghost use lib.ListN.{length, replicate};
 ghost use Rattle.trace.specs.Access.{reads, stores, each};
 ghost use Rattle.trace.specs.Maps.{bit, setBit, mark};
-ghost use Rattle.maps.specs.Pair.{pair, Room};
+ghost use Rattle.maps.specs.Pair.{pair, Room, noneSet};
 
 // The bit of address k in its byte.
 fn power(k: usize) -> u8
@@ -76,4 +76,30 @@ pub fn store4(first: &mut [u8], written: &mut [u8], k: usize)
 {
     store2(first, written, k);
     store2(first, written, k + 2);
+}
+
+// Every bit of a map to 0.
+pub fn wipe(map: &mut [u8])
+    ensures { λ _. ⌜ now (map .exit) ≡ replicate (length (now (map .entry))) 0 ⌝ }
+{
+    let mut i = 0;
+    while i < map.len() {
+        map[i] = 0;
+        i += 1;
+    }
+}
+
+// Whether no bit of the addresses start..end is set.
+pub fn none(map: &[u8], start: usize, end: usize) -> bool
+    requires { ⌜ (start ≤ end) × (end ≤ 8 * length (now map)) ⌝ }
+    ensures { λ r. ⌜ r ≡ noneSet (now (map .entry)) start (end - start) ⌝ }
+{
+    let mut k = start;
+    while k < end {
+        if bit_of(map, k) != 0 {
+            return false;
+        }
+        k += 1;
+    }
+    true
 }

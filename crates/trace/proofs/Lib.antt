@@ -6,3 +6,4 @@ pub mod Runs
 pub mod Twins
 pub mod Theorems
 pub mod Loop
+pub mod Via

@@ -2,3 +2,4 @@ pub mod Access
 pub mod Maps
 pub mod Machine
 pub mod Demand
+pub mod Via

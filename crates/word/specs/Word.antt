@@ -32,6 +32,9 @@ highOf n = n % 2 ^ 16 * 2 ^ 16
 
 -- ---- comparisons
 
+abbrev pub chooseOf : Bool → ℕ → ℕ → ℕ
+chooseOf c x y = cond c x y
+
 -- (signed) rA < (signed) rB
 unfoldable pub lessSignedOf : ℕ → ℕ → Bool
 lessSignedOf a b = ltZ (signed a) (signed b)

@@ -5,7 +5,7 @@ ghost use Prim.Native.Nat.{_*_, _^_};
 ghost use lib.IntN.{natAbs, subℕ};
 ghost use Rattle.word.specs.Integer.{signed, modulo, wordOf, upperOf};
 ghost use Rattle.word.specs.Sign.{negative, withSign};
-ghost use Rattle.word.specs.Word.{addOf, subOf, extendOf, highOf, lessSignedOf, lessOf, flagOf};
+ghost use Rattle.word.specs.Word.{addOf, subOf, extendOf, highOf, chooseOf, lessSignedOf, lessOf, flagOf};
 ghost use Rattle.word.specs.Word.{mulOf, mulxuuOf, mulxssOf, mulxsuOf, divuOf, divOf};
 ghost use Rattle.word.specs.Word.{sllOf, srlOf, sraOf, rolOf, rorOf, andOf, orOf, xorOf, norOf};
 
@@ -36,8 +36,8 @@ fn sub_long(a: u64, b: u64) -> u64
 }
 
 // One of two words, without a branch in the caller's proof.
-fn choose(c: bool, x: u32, y: u32) -> u32
-    ensures { λ r. ⌜ r ≡ cond c x y ⌝ }
+pub fn choose(c: bool, x: u32, y: u32) -> u32
+    ensures { λ r. ⌜ r ≡ chooseOf c x y ⌝ }
 {
     if c { x } else { y }
 }
