@@ -4,7 +4,7 @@ use mathlib.Core.Path.{_≡_, refl, sym, ap, _∙_}
 use mathlib.Core.Logic.{_≢_}
 use mathlib.Core.Bool.{Bool, true, false, not, _||_, cond}
 use mathlib.Core.List.{List}
-use Prim.Native.Nat.{ℕ, zero, suc, _-_, _*_, _/_, _%_, _≤_}
+use Prim.Native.Nat.{ℕ, zero, suc, _-_, _*_, _/_, _%_, _^_, _≤_}
 use native.Mathlib.Omega.{arith}
 use borrow.Author.Tests.{ltb-false, eqb-true, not-false}
 use lib.Dec.{ltb, eqb}
@@ -113,3 +113,32 @@ module _ (len : ℕ) (map : List ℕ) (start end n : ℕ) (e : n ≡ editRefusal
   pub edit-asked : n ≡ 0 → (b : Bool) → b ≡ noneSet map start (end - start) → asked b ≡ editOf len map start end
   unfolding editOf
   edit-asked z b f = let q = sym e ∙ z in rw (q, f)
+
+-- ---- after an accepted fresh start
+
+module _ (len read written : ℕ) (S : Settings) (e : freshRefusal len read written S ≡ 0) where
+  pub small-maps : (read ≤ 2 ^ 17) × (written ≤ 2 ^ 17)
+  unfolding freshRefusal
+  small-maps =
+      let x = passed 0 (badMemory len) _ e in
+      let y = passed 1 (badMap len read || badMap len written) _ (x .1) in
+      let z = neither (badMap len read) (badMap len written) (y .0) in
+      let f = sized len (x .0) in
+      (omega (arith, f .most, mapped len read (z .0)), omega (arith, f .most, mapped len written (z .1)))
+
+  -- a run of at most 1,000,000 steps is accepted too
+  pub run-follows : (budget : ℕ) → badBudget budget ≡ false → runRefusal len read written S (freshState S) budget ≡ 0
+  unfolding freshRefusal runRefusal
+  run-follows budget b =
+      let x = passed 0 (badMemory len) _ e in
+      let y = passed 1 (badMap len read || badMap len written) _ (x .1) in
+      let z = passed 2 (badSettings len S) _ (y .1) in
+      rw (x .0, y .0, z .0, b)
+
+pub start-number : (len : ℕ) (read written : List ℕ) (s : State) (S : Settings) → freshOf len read written s S .result .number ≡ freshRefusal len (length read) (length written) S
+unfolding freshOf
+start-number len read written s S = number (freshRefusal len (length read) (length written) S)
+  where
+    number : (n : ℕ) → unlessStarted n read written s S .result .number ≡ n
+    number zero = refl
+    number (suc n) = refl

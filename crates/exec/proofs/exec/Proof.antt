@@ -1,3 +1,5 @@
+-- `exec::exec` meets its contract.
+-- Assumes nothing.
 use borrow.Author.Needs.{needs}
 use Rattle.exec.proofs.exec.Statement.{statement}
 use Rattle.exec.proofs.exec.Tie as tie

@@ -1,3 +1,5 @@
+-- `exec::quotient` meets its contract.
+-- Assumes nothing.
 use borrow.Author.Needs.{needs}
 use Rattle.exec.proofs.quotient.Statement.{statement}
 use Rattle.exec.proofs.quotient.Tie as tie

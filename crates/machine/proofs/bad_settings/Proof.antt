@@ -1,3 +1,5 @@
+-- `machine::bad_settings` meets its contract.
+-- Assumes nothing.
 use borrow.Author.Needs.{needs}
 use Rattle.machine.proofs.bad_settings.Statement.{statement}
 use Rattle.machine.proofs.bad_settings.Tie as tie

@@ -1,3 +1,5 @@
+-- `machine::bad_state` meets its contract.
+-- Assumes nothing.
 use borrow.Author.Needs.{needs}
 use Rattle.machine.proofs.bad_state.Statement.{statement}
 use Rattle.machine.proofs.bad_state.Tie as tie

@@ -1,3 +1,5 @@
+-- `machine::breaks` meets its contract.
+-- Assumes nothing.
 use borrow.Author.Needs.{needs}
 use Rattle.machine.proofs.breaks.Statement.{statement}
 use Rattle.machine.proofs.breaks.Tie as tie

@@ -1,3 +1,5 @@
+-- `machine::bret` meets its contract.
+-- Assumes nothing.
 use borrow.Author.Needs.{needs}
 use Rattle.machine.proofs.bret.Statement.{statement}
 use Rattle.machine.proofs.bret.Tie as tie

@@ -1,3 +1,5 @@
+-- `machine::control` meets its contract.
+-- Assumes nothing.
 use borrow.Author.Needs.{needs}
 use Rattle.machine.proofs.control.Statement.{statement}
 use Rattle.machine.proofs.control.Tie as tie

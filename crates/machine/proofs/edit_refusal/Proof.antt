@@ -1,3 +1,5 @@
+-- `machine::edit_refusal` meets its contract.
+-- Assumes nothing.
 use Rattle.machine.specs.Calls.{editRefusal}
 use borrow.Author.Needs.{needs}
 use Rattle.machine.proofs.edit_refusal.Statement.{statement}

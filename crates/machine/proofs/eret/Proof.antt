@@ -1,3 +1,5 @@
+-- `machine::eret` meets its contract.
+-- Assumes nothing.
 use borrow.Author.Needs.{needs}
 use Rattle.machine.proofs.eret.Statement.{statement}
 use Rattle.machine.proofs.eret.Tie as tie

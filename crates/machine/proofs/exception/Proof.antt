@@ -1,3 +1,5 @@
+-- `machine::exception` meets its contract.
+-- Assumes nothing.
 use borrow.Author.Needs.{needs}
 use Rattle.machine.proofs.exception.Statement.{statement}
 use Rattle.machine.proofs.exception.Tie as tie

@@ -1,3 +1,5 @@
+-- `machine::executes` meets its contract.
+-- Assumes nothing.
 use borrow.Author.Needs.{needs}
 use Rattle.machine.proofs.executes.Statement.{statement}
 use Rattle.machine.proofs.executes.Tie as tie

@@ -1,3 +1,5 @@
+-- `machine::finish` meets its contract.
+-- Assumes nothing.
 use Rattle.machine.specs.Ends.{afterEnd}
 use borrow.Author.Needs.{needs}
 use Rattle.machine.proofs.finish.Statement.{statement}

@@ -1,3 +1,5 @@
+-- `machine::fresh_refusal` meets its contract.
+-- Assumes nothing.
 use Rattle.machine.specs.Calls.{freshRefusal}
 use borrow.Author.Needs.{needs}
 use Rattle.machine.proofs.fresh_refusal.Statement.{statement}

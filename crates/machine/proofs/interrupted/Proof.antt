@@ -1,3 +1,5 @@
+-- `machine::interrupted` meets its contract.
+-- Assumes nothing.
 use borrow.Author.Needs.{needs}
 use Rattle.machine.proofs.interrupted.Statement.{statement}
 use Rattle.machine.proofs.interrupted.Tie as tie

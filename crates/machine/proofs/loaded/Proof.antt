@@ -1,3 +1,5 @@
+-- `machine::loaded` meets its contract.
+-- Assumes nothing.
 use borrow.Author.Needs.{needs}
 use Rattle.machine.proofs.loaded.Statement.{statement}
 use Rattle.machine.proofs.loaded.Tie as tie

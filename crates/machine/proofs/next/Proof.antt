@@ -1,3 +1,5 @@
+-- `machine::next` meets its contract.
+-- Assumes nothing.
 use borrow.Author.Needs.{needs}
 use Rattle.machine.proofs.next.Statement.{statement}
 use Rattle.machine.proofs.next.Tie as tie

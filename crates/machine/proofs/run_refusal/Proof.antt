@@ -1,3 +1,5 @@
+-- `machine::run_refusal` meets its contract.
+-- Assumes nothing.
 use Rattle.machine.specs.Calls.{runRefusal}
 use borrow.Author.Needs.{needs}
 use Rattle.machine.proofs.run_refusal.Statement.{statement}

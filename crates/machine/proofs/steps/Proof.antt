@@ -6,10 +6,6 @@ use Prim.Native.Nat.{_-_}
 use Rattle.machine.proofs.Running.{Running, state, start, spent, stops, turns}
 use Rattle.machine.proofs.steps.Statement.{statement}
 use Rattle.machine.proofs.steps.Tie as tie
-use Rattle.machine.proofs.steps.Reads as reads
-use Rattle.machine.proofs.steps.Lts as lts
-use Rattle.machine.proofs.step.Reads as step-reads
-use Rattle.state.proofs.put.Reads as put-reads
 
 abbrev Inv-loop : tie.InvT-loop
 Inv-loop mem₀ read₀ written₀ s lines budget regs₀ core₀ n₀ mem read written regs core n =
@@ -18,67 +14,51 @@ Inv-loop mem₀ read₀ written₀ s lines budget regs₀ core₀ n₀ mem read 
 abbrev μ-loop : tie.MeasureT-loop
 μ-loop mem₀ read₀ written₀ s lines budget regs₀ core₀ n₀ mem read written regs core n = budget - n
 
--- src/lib.rt:411:5
 loop-holds : tie.Need-loop-holds Inv-loop μ-loop
 loop-holds c = start (c .before .before .before .before .before .args .s) (c .before .before .before .before .before .args .lines) (c .before .before .before .before .before .args .budget) (c .before .before .before .before .before .args .mem .now) (c .before .before .before .before .before .args .read .now) (c .before .before .before .before .before .args .written .now) (c .before .before .before .before .before .args .state) (c .before .before .before .before .before .pre)
 
--- src/lib.rt:412:13
 step-requires : tie.Need-step-requires Inv-loop μ-loop
 step-requires c κs = c .before .before .before .before .before .before .loop .inv .lent
 
--- src/lib.rt:414:24
 enum-known-t : tie.Need-enum-known-t Inv-loop μ-loop
 enum-known-t c = search needs
 
--- src/lib.rt:416:17
 same-length : tie.Need-same-length Inv-loop μ-loop
 same-length c = search needs
 
--- src/lib.rt:416:17
 same-length-2 : tie.Need-same-length-2 Inv-loop μ-loop
 same-length-2 c = search needs
 
--- src/lib.rt:416:17
 same-length-3 : tie.Need-same-length-3 Inv-loop μ-loop
 same-length-3 c = search needs
 
--- src/lib.rt:416:17
 returns : tie.Need-returns Inv-loop μ-loop
 returns c = stops (c .before .before .before .before .before .before .before .before .before .before .before .before .before .before .before .before .before .before .before .before .before .before .args .s) (c .before .before .before .before .before .before .before .before .before .before .before .before .before .before .before .before .before .before .before .before .before .before .args .lines) (c .before .before .before .before .before .before .before .before .before .before .before .before .before .before .before .before .before .before .before .before .before .before .args .budget) (c .before .before .before .before .before .before .before .before .before .before .before .before .before .before .before .before .before .before .before .before .before .before .args .mem .now) (c .before .before .before .before .before .before .before .before .before .before .before .before .before .before .before .before .before .before .before .before .before .before .args .read .now) (c .before .before .before .before .before .before .before .before .before .before .before .before .before .before .before .before .before .before .before .before .before .before .args .written .now) (c .before .before .before .before .before .before .before .before .before .before .before .before .before .before .before .before .before .before .before .before .before .before .args .state) (c .before .before .before .before .before .before .before .before .before .before .before .before .before .before .before .before .loop .inv) _ _ _ _ (c .before .before .before .before .before .before .before .before .before .before .before .before .before .before .before .loop-test .taken) (c .before .before .before .before .before .before .before .before .before .step .ensures) _ (c .before .t .given .1)
 
--- src/lib.rt:422:24
 enum-known-t-2 : tie.Need-enum-known-t-2 Inv-loop μ-loop
 enum-known-t-2 c = search needs
 
--- src/lib.rt:423:17
 put-requires : tie.Need-put-requires Inv-loop μ-loop
 put-requires c κs = search needs
 
--- src/lib.rt:427:9
 add-n : tie.Need-add-n Inv-loop μ-loop
 add-n c = omega (arith, c .before .before .before .before .before .before .before .before .before .before .before .before .before .before .before .before .before .before .loop-test .taken, c .before .before .before .before .before .before .before .before .before .before .before .before .before .before .before .before .before .before .before .before .before .before .before .before .before .fits .budget .fits)
 
--- src/lib.rt:411:5
 loop-less : tie.Need-loop-less Inv-loop μ-loop
 loop-less c = omega (arith, c .before .before .before .before .before .before .before .before .before .before .before .before .before .before .before .before .before .before .loop-test .taken)
 
--- src/lib.rt:411:5
 loop-again : tie.Need-loop-again Inv-loop μ-loop
 loop-again c = turns (c .before .before .before .before .before .before .before .before .before .before .before .before .before .before .before .before .before .before .before .before .before .before .before .before .before .args .s) (c .before .before .before .before .before .before .before .before .before .before .before .before .before .before .before .before .before .before .before .before .before .before .before .before .before .args .lines) (c .before .before .before .before .before .before .before .before .before .before .before .before .before .before .before .before .before .before .before .before .before .before .before .before .before .args .budget) (c .before .before .before .before .before .before .before .before .before .before .before .before .before .before .before .before .before .before .before .before .before .before .before .before .before .args .mem .now) (c .before .before .before .before .before .before .before .before .before .before .before .before .before .before .before .before .before .before .before .before .before .before .before .before .before .args .read .now) (c .before .before .before .before .before .before .before .before .before .before .before .before .before .before .before .before .before .before .before .before .before .before .before .before .before .args .written .now) (c .before .before .before .before .before .before .before .before .before .before .before .before .before .before .before .before .before .before .before .before .before .before .before .before .before .args .state) (c .before .before .before .before .before .before .before .before .before .before .before .before .before .before .before .before .before .before .before .loop .inv) _ _ _ _ (c .before .before .before .before .before .before .before .before .before .before .before .before .before .before .before .before .before .before .loop-test .taken) (c .before .before .before .before .before .before .before .before .before .before .before .before .step .ensures) _ _ (c .before .before .before .before .t2 .given .1) (c .before .put .ensures) (c .before .before .before .before .before .before .before .before .before .before .before .before .step .kept .0) (c .before .before .before .before .before .before .before .before .before .before .before .before .step .kept .1 .0) (c .before .before .before .before .before .before .before .before .before .before .before .before .step .kept .1 .1 .0)
 
--- src/lib.rt:396:1
 same-length-4 : tie.Need-same-length-4 Inv-loop μ-loop
 same-length-4 c = search needs
 
--- src/lib.rt:396:1
 same-length-5 : tie.Need-same-length-5 Inv-loop μ-loop
 same-length-5 c = search needs
 
--- src/lib.rt:396:1
 same-length-6 : tie.Need-same-length-6 Inv-loop μ-loop
 same-length-6 c = search needs
 
--- src/lib.rt:396:1
 returns-2 : tie.Need-returns-2 Inv-loop μ-loop
 returns-2 c = spent (c .before .before .before .before .before .before .before .args .s) (c .before .before .before .before .before .before .before .args .lines) (c .before .before .before .before .before .before .before .args .budget) (c .before .before .before .before .before .before .before .args .mem .now) (c .before .before .before .before .before .before .before .args .read .now) (c .before .before .before .before .before .before .before .args .written .now) (c .before .before .before .before .before .before .before .args .state) (c .before .loop .inv) (c .loop-test .left)
 
