@@ -54,16 +54,25 @@ abbrev pub first : List Test → ℕ
 first [] = 0
 first (test n b ∷ rest) = cond b n (first rest)
 
+-- a fresh start uses 1 to 3, a run 1 to 5, the edit question 1, 2 and 6
+abbrev pub freshTests : ℕ → ℕ → ℕ → Settings → List Test
+freshTests len read written S = test 1 (badMemory len) ∷ test 2 (badMap len read || badMap len written) ∷ test 3 (badSettings len S) ∷ []
+
+abbrev pub runTests : ℕ → ℕ → ℕ → Settings → State → ℕ → List Test
+runTests len read written S s budget =
+    test 1 (badMemory len) ∷ test 2 (badMap len read || badMap len written) ∷ test 3 (badSettings len S) ∷ test 4 (badState s) ∷ test 5 (badBudget budget) ∷ []
+
+abbrev pub editTests : ℕ → ℕ → ℕ → ℕ → List Test
+editTests len read start end = test 1 (badMemory len) ∷ test 2 (badMap len read) ∷ test 6 (badRange len start end) ∷ []
+
 unfoldable pub freshRefusal : ℕ → ℕ → ℕ → Settings → ℕ
-freshRefusal len read written S = first (test 1 (badMemory len) ∷ test 2 (badMap len read || badMap len written) ∷ test 3 (badSettings len S) ∷ [])
+freshRefusal len read written S = first (freshTests len read written S)
 
 unfoldable pub runRefusal : ℕ → ℕ → ℕ → Settings → State → ℕ → ℕ
-runRefusal len read written S s budget =
-    first
-    (test 1 (badMemory len) ∷ test 2 (badMap len read || badMap len written) ∷ test 3 (badSettings len S) ∷ test 4 (badState s) ∷ test 5 (badBudget budget) ∷ [])
+runRefusal len read written S s budget = first (runTests len read written S s budget)
 
 unfoldable pub editRefusal : ℕ → ℕ → ℕ → ℕ → ℕ
-editRefusal len read start end = first (test 1 (badMemory len) ∷ test 2 (badMap len read) ∷ test 6 (badRange len start end) ∷ [])
+editRefusal len read start end = first (editTests len read start end)
 
 -- ---- a run
 

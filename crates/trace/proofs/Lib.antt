@@ -7,3 +7,4 @@ pub mod Twins
 pub mod Theorems
 pub mod Loop
 pub mod Via
+pub mod Always
