@@ -1,3 +1,4 @@
+pub mod Examples
 pub mod Demand1
 pub mod Reasons
 pub mod Demand2
