@@ -38,7 +38,7 @@ abbrev pub loadOf : Fields → ℕ → Width → Bool → Effect
 loadOf f a width sign = Load (f .b) (addOf a (signedOf f)) width sign
 
 abbrev pub storeOf : Fields → ℕ → ℕ → Width → Effect
-storeOf f a b width = Store (addOf a (signedOf f)) width b
+storeOf f a b width = Store (addOf a (signedOf f)) b width
 
 -- without its unit, the unimplemented exception
 abbrev pub presentOf : Bool → ℕ → ℕ → Effect

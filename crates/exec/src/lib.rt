@@ -33,8 +33,8 @@ pub enum Effect {
     },
     Store {
         at: u32,
-        width: Width,
         value: u32,
+        width: Width,
     },
     // a register takes a control register; pc + 4
     Read(u32, u32),
@@ -86,8 +86,8 @@ fn store(f: Fields, a: u32, b: u32, width: Width) -> Effect
 {
     Effect::Store {
         at: word::add(a, signed(f)),
-        width,
         value: b,
+        width,
     }
 }
 

@@ -335,7 +335,7 @@ fn finish(
             width,
             sign,
         } => load(mem, read, written, c, dest, at, width, sign),
-        Effect::Store { at, width, value } => store(mem, read, written, c, at, width, value),
+        Effect::Store { at, value, width } => store(mem, read, written, c, at, width, value),
         Effect::Read(d, n) => Turn::Make(writes(d, control(s, lines, c, n), next(c))),
         Effect::Write(n, v) => Turn::Make(only(next(set_control(c, n, v)))),
         Effect::Raise => Turn::Make(exception(s, c)),

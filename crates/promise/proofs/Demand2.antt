@@ -110,7 +110,7 @@ module _ (S : Settings) (lines len : ℕ) (r : List ℕ) (c : Core) (f : Flags c
   does-fair (Go t) x = keep _
   does-fair (Link t) x = keep _
   does-fair (Load d a w g) x = within-fair len a w _ (λ v. keep _)
-  does-fair (Store a w v) x = within-fair len a w _ (keep _)
+  does-fair (Store a v w) x = within-fair len a w _ (keep _)
   does-fair (Read d n) x = keep _
   does-fair (Write n v) x = let y = set-flags c n v f in record { status = y .status; estatus = y .estatus; bstatus = y .bstatus }
   does-fair Raise x = record { status = omega arith; estatus = f .status; bstatus = f .bstatus }
