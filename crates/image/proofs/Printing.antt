@@ -3,19 +3,18 @@
 use mathlib.Core.Path.{_≡_, refl, sym, ap, _∙_}
 use mathlib.Core.Logic.{_≢_}
 use mathlib.Core.List.{List}
-use Prim.Native.Nat.{ℕ, zero, suc, _%_, _^_, _≤_, _<_}
+use Prim.Native.Nat.{ℕ, zero, suc, _%_, _^_, _≤_}
 use native.Mathlib.Omega.{arith}
 use lib.ListN.{length}
 use Rattle.state.specs.declared.State.{State}
 use Rattle.trace.specs.Maps.{Maps}
-use Rattle.trace.specs.Machine.{Answer}
 use Rattle.machine.specs.declared.Start.{Start}
 use Rattle.machine.specs.declared.Answered.{Answered}
 use Rattle.machine.specs.Calls.{Started, started, freshOf, answered, runOf}
 use Rattle.machine.proofs.Accepted.{small-maps, start-number}
 use Rattle.report.specs.Lines.{linesOf, refusedOf, onesOf, over}
 use Rattle.report.proofs.Bits.{ones-exact}
-use Rattle.image.specs.Print.{settingsOf, blankOf, Print, printed, text, ran, byNumber, printOf}
+use Rattle.image.specs.Print.{settingsOf, blankOf, printed, text, ran, byNumber, printOf}
 
 refused : (k : ℕ) (out m : List ℕ) (s : State) (p : Maps) → k ≢ 0 → text (refusedOf k) out m p ≡ byNumber k out m s p
 refused zero out m s p f = absurd (f refl)

@@ -1,6 +1,6 @@
 -- What the numbers of the calls say: with 0 the lent slices fit, and another number leaves all as it was.
 -- Assumes nothing.
-use mathlib.Core.Path.{_≡_, refl, sym, ap, _∙_}
+use mathlib.Core.Path.{_≡_, refl, sym, _∙_}
 use mathlib.Core.Logic.{_≢_}
 use mathlib.Core.Bool.{Bool, true, false, not, _||_, cond}
 use mathlib.Core.List.{List}
@@ -15,8 +15,8 @@ use Rattle.state.specs.declared.Settings.{Settings}
 use Rattle.trace.specs.Maps.{Maps}
 use Rattle.trace.specs.Machine.{Answer, answer}
 use Rattle.machine.specs.declared.Verdict.{Verdict}
-use Rattle.machine.specs.declared.Verdict.the-variants.{Refused, Yes, No}
-use Rattle.machine.specs.Calls.{badMemory, badMap, badSettings, badState, badBudget, badRange}
+use Rattle.machine.specs.declared.Verdict.the-variants.{Refused}
+use Rattle.machine.specs.Calls.{badMemory, badMap, badSettings, badBudget, badRange}
 use Rattle.machine.specs.Calls.{freshRefusal, runRefusal, editRefusal, Lent, unlessRefused, runOf, answered}
 use Rattle.machine.specs.Calls.{unlessStarted, started, freshState, freshOf, unlessBad, asked, editOf}
 use Rattle.machine.specs.Step.{machine}

@@ -2,9 +2,8 @@
 -- Assumes nothing.
 use mathlib.Core.Bool.{Bool, not, _&&_, cond}
 use mathlib.Core.List.{List}
-use Prim.Native.Nat.{ℕ, _+_, _*_, _%_}
+use Prim.Native.Nat.{ℕ, _+_, _%_}
 use lib.Dec.{eqb, leb}
-use lib.ListN.{length}
 use Rattle.maps.specs.Pair.{pair}
 use Rattle.state.specs.declared.Change.{Change}
 use Rattle.trace.specs.Maps.{Maps, mark}

@@ -1,6 +1,6 @@
 -- One step, rule by rule in the order of document 01. It names no memory and no map.
 -- Assumes nothing.
-use mathlib.Core.Bool.{Bool, true, false, not, _&&_, _||_, cond}
+use mathlib.Core.Bool.{Bool, not, _&&_, _||_, cond}
 use mathlib.Core.List.{List}
 use Prim.Native.Nat.{ℕ, _+_, _%_}
 use lib.Bits.{bitAnd}

@@ -1,7 +1,7 @@
 // The machine: one step, a run, a fresh start and the edit question.
 ghost use mathlib.Core.Path.{_≡_};
-ghost use Prim.Native.Nat.{_+_, _*_, _^_, _<_, _≤_};
-ghost use lib.ListN.{length, replicate};
+ghost use Prim.Native.Nat.{_+_, _^_, _<_, _≤_};
+ghost use lib.ListN.{length};
 ghost use Rattle.trace.specs.Access.{reads, stores, each, number, put};
 ghost use Rattle.trace.specs.Maps.{mark};
 ghost use Rattle.trace.specs.Machine.{answer};
@@ -10,7 +10,7 @@ ghost use Rattle.machine.specs.Step.{above as aboveOf, interrupted as in
 ghost use Rattle.machine.specs.Step.{exception as exceptionOf, breaks as breaksOf, erets, brets, control as controlOf, setControl, bytes, loaded as loadedOf};
 ghost use Rattle.machine.specs.Step.{loads, stores as storesOf, does, executes as executesOf, attempt, machine};
 ghost use Rattle.machine.specs.Ends.{ended, afterEnd, attemptEnd, barredOf, faultOf};
-ghost use Rattle.machine.specs.Calls.{badMemory, badMap, badAddress, badSettings, badState, badBudget, badRange, freshRefusal, runRefusal, editRefusal, runOf, answered, started, freshOf, asked as askedOf, editOf, Lent};
+ghost use Rattle.machine.specs.Calls.{badMemory, badMap, badAddress, badSettings, badState, badRange, freshRefusal, runRefusal, editRefusal, runOf, answered, started, freshOf, editOf, Lent};
 use exec::Effect;
 use exec::Width;
 use state::Change;

@@ -1,6 +1,6 @@
 -- Numbers in memory, byte by byte and part by part.
 -- Assumes nothing.
-use mathlib.Core.Path.{_≡_, refl, sym, ap, _∙_}
+use mathlib.Core.Path.{_≡_, ap, _∙_}
 use mathlib.Core.List.{List}
 use Prim.Native.Nat.{ℕ, zero, suc, _+_, _*_, _/_, _%_, _^_}
 use native.Mathlib.Nat.{zero-add, add-zero, suc-add, add-suc, div-one, div-div-eq-div-mul, pow-succ'}

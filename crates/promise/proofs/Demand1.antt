@@ -1,28 +1,24 @@
 -- Demand 1 about the calls: what is not accepted is refused under its number with all unchanged, and a word outside the list stops the run.
 -- Assumes nothing.
-use mathlib.Core.Path.{_≡_, refl, sym, ap, _∙_}
+use mathlib.Core.Path.{_≡_, refl, sym, _∙_}
 use mathlib.Core.Logic.{_⊎_, inl, inr, _≢_, _↔_}
-use mathlib.Core.Bool.{Bool, true, false}
+use mathlib.Core.Bool.{true, false}
 use mathlib.Core.List.{List, [], _∷_}
-use Prim.Native.Nat.{ℕ, zero, suc, _+_, _%_, _≤_}
-use native.Mathlib.Omega.{arith}
+use Prim.Native.Nat.{ℕ, suc, _+_, _%_, _≤_}
 use borrow.Author.Tests.{eq-eqb, le-leb}
-use lib.Dec.{eqb, leb}
-use lib.ListN.{length, replicate}
+use lib.ListN.{length}
 use Rattle.isa.specs.Words.{kindOf}
-use Rattle.isa.specs.declared.Kind.{Kind}
 use Rattle.isa.specs.declared.Kind.the-variants.{Outside}
 use Rattle.maps.specs.Pair.{pair}
 use Rattle.state.specs.declared.State.{State}
 use Rattle.state.specs.declared.Settings.{Settings}
 use Rattle.trace.specs.Access.{number}
-use Rattle.trace.specs.Maps.{Maps, mark}
-use Rattle.trace.specs.Machine.{Answer, answer, fetched}
-use Rattle.machine.specs.declared.Verdict.{Verdict}
+use Rattle.trace.specs.Maps.{mark}
+use Rattle.trace.specs.Machine.{fetched}
 use Rattle.machine.specs.declared.Verdict.the-variants.{Refused}
-use Rattle.machine.specs.Step.{above, interrupted, attempt, machine}
+use Rattle.machine.specs.Step.{above, interrupted, attempt}
 use Rattle.machine.specs.Calls.{Test, test, first, freshTests, runTests, editTests}
-use Rattle.machine.specs.Calls.{runRefusal, freshRefusal, editRefusal, runOf, started, freshOf, editOf, answered}
+use Rattle.machine.specs.Calls.{runRefusal, freshRefusal, editRefusal, runOf, started, freshOf, editOf}
 use Rattle.machine.proofs.Accepted.{run-refused, run-accepted, fresh-refused, edit-refused}
 
 -- ---- the numbers: each is given exactly when its condition holds and no earlier one does

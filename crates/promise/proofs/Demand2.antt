@@ -1,6 +1,6 @@
 -- Demand 2 about the calls: steps and budget, what an exception changes, what stays.
 -- Assumes nothing.
-use mathlib.Core.Path.{_≡_, refl, sym, ap, _∙_, subst}
+use mathlib.Core.Path.{_≡_, refl, sym, _∙_}
 use mathlib.Core.Logic.{_⊎_, inl, inr, _≢_, by-cases}
 use mathlib.Core.Bool.{Bool, true, false, not, _||_, cond}
 use mathlib.Core.List.{List}
@@ -9,8 +9,8 @@ use native.Mathlib.Decide.{ℕ-discrete}
 use native.Mathlib.Omega.{arith}
 use borrow.Author.Tests.{ltb-false, eqb-true, not-false}
 use lib.Dec.{eqb, ltb, leb}
-use lib.ListN.{length, getD, set, length-set}
-use lib.Seq.{getD-set-other, getD-set-same}
+use lib.ListN.{length, getD}
+use lib.Seq.{getD-set-other}
 use Rattle.exec.specs.declared.Width.{Width}
 use Rattle.exec.specs.declared.Effect.{Effect}
 use Rattle.exec.specs.declared.Effect.the-variants.{Stop, Next, Put, Go, Link, Load, Store, Read, Write, Raise, Break, Eret, Bret, Ret}
@@ -22,7 +22,7 @@ use Rattle.state.specs.declared.Change.{Change}
 use Rattle.state.specs.State.{write, readReg, changed}
 use Rattle.state.proofs.Writes.{write-none, write-one}
 use Rattle.trace.specs.Access.{Stored}
-use Rattle.trace.specs.Machine.{After, stop, go, load, store, Attempt, halt, quiet, fetch, Answer, answer, run}
+use Rattle.trace.specs.Machine.{After, stop, go, load, store, Attempt, halt, quiet, fetch, answer, run}
 use Rattle.trace.specs.Via.{via, viaAfter}
 use Rattle.trace.proofs.Always.{AlwaysAfter, Always, Kept, run-kept}
 use Rattle.machine.specs.Step.{above, interrupted, goes, exception, breaks, setControl, bytes, within, does, executes, attempt, machine}
@@ -46,6 +46,17 @@ zero-kept : (r : List ℕ) (d v : ℕ) → getD (write r d v) 0 0 ≡ getD r 0 0
 zero-kept r d v = by-cases (ℕ-discrete (d % 32) 0)
     (λ e. rw (write-none r d v e))
     (λ g. rw (write-one r d v g) (getD-set-other r (d % 32) 0 v 0 (λ e. g (sym e))))
+
+-- ---- an interrupt, a trap and an unimplemented instruction are the exception
+
+module _ (S : Settings) (lines len : ℕ) (r : List ℕ) (c : Core) where
+  pub interrupt-enters : above c ≡ false → interrupted lines c ≡ true → attempt S lines len r c ≡ quiet (exception S c)
+  unfolding attempt
+  interrupt-enters a i = rw (a, i)
+
+  -- the effect of trap, and of an instruction whose unit is missing
+  pub raise-enters : does S lines len r c Raise ≡ go (exception S c)
+  raise-enters = refl
 
 -- ---- of the state, an exception changes only ea, estatus, status and pc
 

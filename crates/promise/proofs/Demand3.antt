@@ -1,30 +1,29 @@
 -- Demand 3 about the calls: exactly, survives, and the edit question.
 -- Assumes nothing.
-use mathlib.Core.Path.{_≡_, refl, sym, ap, _∙_, subst, subst₂}
-use mathlib.Core.Logic.{_⊎_, inl, inr, _≢_, by-cases}
-use mathlib.Core.Bool.{Bool, true, false, cond}
+use mathlib.Core.Path.{_≡_, refl, sym, subst}
+use mathlib.Core.Logic.{inl, inr, by-cases}
+use mathlib.Core.Bool.{Bool, true, false}
 use mathlib.Core.List.{List}
-use Prim.Native.Nat.{ℕ, zero, suc, _+_, _-_, _*_, _/_, _%_, _^_, _≤_, _<_}
+use Prim.Native.Nat.{ℕ, zero, suc, _+_, _-_, _*_, _/_, _≤_, _<_}
 use native.Mathlib.Nat.{zero-div}
 use native.Mathlib.Decide.{ℕ-discrete, decLt, decLe}
 use native.Mathlib.Omega.{arith}
 use borrow.Author.Tests.{eqb-true}
 use lib.Dec.{eqb}
 use lib.ListN.{length, getD, replicate, length-replicate, List·getD-eq-default}
-use Rattle.maps.specs.Pair.{pair, noneSet}
+use Rattle.maps.specs.Pair.{noneSet}
 use Rattle.state.specs.declared.State.{State}
 use Rattle.state.specs.declared.Settings.{Settings}
-use Rattle.trace.specs.Maps.{bit, Maps, cleared}
+use Rattle.trace.specs.Maps.{bit, cleared}
 use Rattle.trace.specs.Machine.{Answer, answer, run}
 use Rattle.trace.specs.Demand.{Exactly, Edit, Survives}
 use Rattle.trace.proofs.Bits.{clear-bit}
 use Rattle.trace.proofs.Theorems as theory
-use Rattle.machine.specs.declared.Answered.{Answered}
 use Rattle.machine.specs.declared.Verdict.{Verdict}
-use Rattle.machine.specs.declared.Verdict.the-variants.{Refused, Yes, No}
+use Rattle.machine.specs.declared.Verdict.the-variants.{Yes}
 use Rattle.machine.specs.Step.{machine}
-use Rattle.machine.specs.Calls.{Lent, runRefusal, unlessRefused, runOf, answered, editRefusal, unlessBad, asked, editOf}
-use Rattle.machine.proofs.Accepted.{lent}
+use Rattle.machine.specs.Calls.{runRefusal, unlessRefused, runOf, editRefusal, unlessBad, asked, editOf, freshRefusal, freshState, started, freshOf}
+use Rattle.machine.proofs.Accepted.{lent, fresh-accepted}
 use Rattle.promise.specs.Calls.{clearedRun, Differs}
 
 -- no bit of a cleared map is set
@@ -110,3 +109,8 @@ module _ (n : ℕ) (s : State) (S : Settings) (lines budget : ℕ) (m : List ℕ
       same k b (yes h) (yes g) =
           let z = none-in (clearedRun n s S lines budget m .maps .readFirst) start (end - start) k (yes-none (length m) (clearedRun n s S lines budget m .maps .readFirst) start end y) h (omega arith) in
           absurd (omega arith)
+
+-- an accepted fresh start leaves cleared maps, so the promises hold of the run that follows it
+pub fresh-clears : (len : ℕ) (read written : List ℕ) (s : State) (S : Settings) → freshRefusal len (length read) (length written) S ≡ 0
+    → freshOf len read written s S ≡ started (record { number = 0; state = freshState S }) (replicate (length read) 0) (replicate (length written) 0)
+fresh-clears len read written s S z = sym (fresh-accepted len read written s S 0 (sym z) refl (replicate (length read) 0) (replicate (length written) 0) refl refl)

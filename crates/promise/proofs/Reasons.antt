@@ -1,6 +1,5 @@
 -- An instruction that stops a run names its reason: never 0, which is "budget spent".
 -- Assumes nothing.
-use mathlib.Core.Path.{_≡_}
 use mathlib.Core.Logic.{_≢_}
 use mathlib.Core.Bool.{Bool, true, false, not, cond}
 use Prim.Native.Nat.{ℕ}

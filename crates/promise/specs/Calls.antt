@@ -5,10 +5,8 @@ use mathlib.Core.Logic.{_⊎_}
 use mathlib.Core.List.{List}
 use Prim.Native.Nat.{ℕ, _≤_, _<_}
 use lib.ListN.{length, getD, replicate}
-use Rattle.state.specs.declared.Core.{Core}
 use Rattle.state.specs.declared.State.{State}
 use Rattle.state.specs.declared.Settings.{Settings}
-use Rattle.state.specs.State.{readReg}
 use Rattle.trace.specs.Machine.{Answer}
 use Rattle.machine.specs.Calls.{runOf}
 
@@ -27,8 +25,3 @@ pub record Sound (s : State) : Type 0 where
   pub status : s .core .status ≤ 1
   pub estatus : s .core .estatus ≤ 1
   pub bstatus : s .core .bstatus ≤ 1
-
--- t differs from s in register d, in pc and in status at most, besides the one other word that is named with it
-pub record SameRegs (d : ℕ) (s t : State) : Type 0 where
-  pub others : (i : ℕ) → i < 32 → (i ≡ d → ⊥) → readReg (t .regs .r) i ≡ readReg (s .regs .r) i
-  pub ienable : t .core .ienable ≡ s .core .ienable

@@ -1,7 +1,7 @@
 -- Document 01's example, line by line.
 -- Assumes nothing.
 use mathlib.Core.Path.{_≡_, refl}
-use mathlib.Core.List.{List, [], _∷_}
+use mathlib.Core.List.{[], _∷_}
 use Rattle.report.specs.Lines.{stopLine, ctlLine, registerLine, mapsLine, refusedOf}
 use Rattle.report.specs.Lines.{decimal, decimalIn, hex8, hex4, hex2}
 

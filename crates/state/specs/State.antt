@@ -6,7 +6,6 @@ use Prim.Native.Nat.{ℕ, _%_}
 use lib.Dec.{eqb}
 use lib.ListN.{getD, set}
 use Rattle.state.specs.declared.Regs.{Regs}
-use Rattle.state.specs.declared.Core.{Core}
 use Rattle.state.specs.declared.State.{State}
 use Rattle.state.specs.declared.Change.{Change}
 

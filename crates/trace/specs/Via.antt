@@ -1,7 +1,5 @@
 -- An attempt whose configuration is handed on through a function: each step that is made gives f of what it gave.
 -- Assumes nothing.
-use Prim.Native.Nat.{ℕ}
-use mathlib.Core.List.{List}
 use Rattle.trace.specs.Machine.{After, stop, go, load, store, Attempt, halt, quiet, fetch, Outcome, stopped, stepped}
 
 module _ {R C D : Type 0} (f : C → D) where

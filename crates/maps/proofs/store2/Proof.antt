@@ -1,7 +1,7 @@
 -- `maps::store2` meets its contract: one part, then the other.
 -- Assumes nothing.
 use mathlib.Core.Path.{sym, ap, _∙_}
-use Prim.Native.Nat.{ℕ, _+_}
+use Prim.Native.Nat.{_+_}
 use Rattle.trace.specs.Access.{stores, each}
 use Rattle.trace.specs.Maps.{mark}
 use Rattle.maps.specs.Pair.{pair}
