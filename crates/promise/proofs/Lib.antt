@@ -1,5 +1,6 @@
 pub mod Examples
-pub mod Demand1
 pub mod Reasons
-pub mod Demand2
-pub mod Demand3
+pub mod Numbers
+pub mod Fair
+pub mod Edits
+pub mod Demands

@@ -1,10 +1,10 @@
--- Demand 2 about the calls: steps and budget, what an exception changes, what stays.
+-- Registers that are not written, and what every step keeps to: r0 is 0, status, estatus and bstatus are 0 or 1, no stop has reason 0.
 -- Assumes nothing.
 use mathlib.Core.Path.{_≡_, refl, sym, _∙_}
 use mathlib.Core.Logic.{_⊎_, inl, inr, _≢_, by-cases}
 use mathlib.Core.Bool.{Bool, true, false, not, _||_, cond}
 use mathlib.Core.List.{List}
-use Prim.Native.Nat.{ℕ, zero, suc, _+_, _%_, _≤_, _<_}
+use Prim.Native.Nat.{ℕ, zero, suc, _+_, _%_, _≤_}
 use native.Mathlib.Decide.{ℕ-discrete}
 use native.Mathlib.Omega.{arith}
 use borrow.Author.Tests.{ltb-false, eqb-true, not-false}
@@ -14,30 +14,26 @@ use lib.Seq.{getD-set-other}
 use Rattle.exec.specs.declared.Width.{Width}
 use Rattle.exec.specs.declared.Effect.{Effect}
 use Rattle.exec.specs.declared.Effect.the-variants.{Stop, Next, Put, Go, Link, Load, Store, Read, Write, Raise, Break, Eret, Bret, Ret}
-use Rattle.maps.specs.Pair.{pair}
 use Rattle.state.specs.declared.Core.{Core}
 use Rattle.state.specs.declared.State.{State}
 use Rattle.state.specs.declared.Settings.{Settings}
 use Rattle.state.specs.declared.Change.{Change}
 use Rattle.state.specs.State.{write, readReg, changed}
 use Rattle.state.proofs.Writes.{write-none, write-one}
-use Rattle.trace.specs.Access.{Stored}
-use Rattle.trace.specs.Machine.{After, stop, go, load, store, Attempt, halt, quiet, fetch, answer, run}
+use Rattle.trace.specs.Machine.{After, stop, go, load, store, Attempt, halt, quiet, fetch, run}
 use Rattle.trace.specs.Via.{via, viaAfter}
 use Rattle.trace.proofs.Always.{AlwaysAfter, Always, Kept, run-kept}
-use Rattle.machine.specs.Step.{above, interrupted, goes, exception, breaks, setControl, bytes, within, does, executes, attempt, machine}
+use Rattle.machine.specs.Step.{above, interrupted, goes, setControl, bytes, within, does, executes, attempt, machine}
 use Rattle.isa.specs.Words.{kindOf, fieldsOf}
 use Rattle.promise.proofs.Reasons.{Named, exec-named}
-use Rattle.machine.specs.Calls.{badState, runRefusal, runOf}
-use Rattle.machine.proofs.Accepted.{run-accepted}
+use Rattle.machine.specs.Calls.{badState, runTests, runRefusal}
 use Rattle.trace.proofs.Theorems as theory
-use Rattle.trace.proofs.Marks.{mark-lengths}
 use Rattle.promise.specs.Calls.{Sound}
-use Rattle.promise.proofs.Demand1.{run-number}
+use Rattle.promise.proofs.Numbers.{in-order}
 
 -- ---- a register that is not written keeps its value
 
-other : (r : List ℕ) (d v i : ℕ) → i % 32 ≢ d % 32 → readReg (write r d v) i ≡ readReg r i
+pub other : (r : List ℕ) (d v i : ℕ) → i % 32 ≢ d % 32 → readReg (write r d v) i ≡ readReg r i
 other r d v i f = by-cases (ℕ-discrete (d % 32) 0)
     (λ e. rw (write-none r d v e))
     (λ g. rw (write-one r d v g) (getD-set-other r (d % 32) (i % 32) v 0 f))
@@ -46,33 +42,6 @@ zero-kept : (r : List ℕ) (d v : ℕ) → getD (write r d v) 0 0 ≡ getD r 0 0
 zero-kept r d v = by-cases (ℕ-discrete (d % 32) 0)
     (λ e. rw (write-none r d v e))
     (λ g. rw (write-one r d v g) (getD-set-other r (d % 32) 0 v 0 (λ e. g (sym e))))
-
--- ---- an interrupt, a trap and an unimplemented instruction are the exception
-
-module _ (S : Settings) (lines len : ℕ) (r : List ℕ) (c : Core) where
-  pub interrupt-enters : above c ≡ false → interrupted lines c ≡ true → attempt S lines len r c ≡ quiet (exception S c)
-  unfolding attempt
-  interrupt-enters a i = rw (a, i)
-
-  -- the effect of trap, and of an instruction whose unit is missing
-  pub raise-enters : does S lines len r c Raise ≡ go (exception S c)
-  raise-enters = refl
-
--- ---- of the state, an exception changes only ea, estatus, status and pc
-
-module _ (S : Settings) (s : State) where
-  pub exception-registers : (i : ℕ) → i < 32 → i ≢ 29 → readReg (changed s (exception S (s .core)) .regs .r) i ≡ readReg (s .regs .r) i
-  exception-registers i h f = other (s .regs .r) 29 _ i (λ e. f (omega arith))
-
-  pub exception-rest : (changed s (exception S (s .core)) .core .bstatus ≡ s .core .bstatus) × (changed s (exception S (s .core)) .core .ienable ≡ s .core .ienable)
-  exception-rest = (refl, refl)
-
-  -- break changes only ba, bstatus, status and pc
-  pub break-registers : (i : ℕ) → i < 32 → i ≢ 30 → readReg (changed s (breaks S (s .core)) .regs .r) i ≡ readReg (s .regs .r) i
-  break-registers i h f = other (s .regs .r) 30 _ i (λ e. f (omega arith))
-
-  pub break-rest : (changed s (breaks S (s .core)) .core .estatus ≡ s .core .estatus) × (changed s (breaks S (s .core)) .core .ienable ≡ s .core .ienable)
-  break-rest = (refl, refl)
 
 -- ---- r0 stays 0, and status, estatus and bstatus stay 0 or 1; no stop has the reason of a spent budget
 
@@ -159,7 +128,7 @@ via-always s h (halt r) x = x
 via-always s h (quiet c) x = sound-again s c h x
 via-always s h (fetch a g) x = λ w. via-after s h (g w) (x w)
 
-kept : (S : Settings) (lines budget : ℕ) (s : State) (m : List ℕ) → Sound s → Kept Stopping Sound 0 budget (run (machine S lines (length m)) budget s m)
+pub kept : (S : Settings) (lines budget : ℕ) (s : State) (m : List ℕ) → Sound s → Kept Stopping Sound 0 budget (run (machine S lines (length m)) budget s m)
 kept S lines budget s m h =
     run-kept Stopping Sound (machine S lines (length m))
     (λ t g. via-always t g (attempt S lines (length m) (t .regs .r) (t .core))
@@ -189,35 +158,10 @@ good-state s e =
       bstatus = ltb-false 1 (s .core .bstatus) (y .1);
     }
 
--- ---- the promises about an accepted run
+-- ---- an accepted call has a sound state
 
-module _ (m read written : List ℕ) (s : State) (S : Settings) (lines budget : ℕ) (z : runRefusal (length m) (length read) (length written) S s budget ≡ 0) where
-  began : Sound s
-  began =
-      let g = run-number (length m) (length read) (length written) S s budget 0 .0 (sym z) in
-      good-state s (none-given 3 (none-given 2 (none-given 1 (none-given 0 g .1) .1) .1) .0)
-
-  -- the run is the definition's run
-  pub run-is : runOf m read written s S lines budget ≡ answer (machine S lines (length m)) budget s m (pair read written)
-  run-is = sym (run-accepted m read written s S lines budget 0 (sym z) refl)
-
-  -- all steps are made and the reason is 0, or fewer and it is another
-  pub steps-or-stop : ((runOf m read written s S lines budget .reason ≡ 0) × (runOf m read written s S lines budget .steps ≡ budget))
-      ⊎ ((runOf m read written s S lines budget .reason ≢ 0) × (runOf m read written s S lines budget .steps < budget))
-  steps-or-stop = rw (run-is) (kept S lines budget s m began .reason)
-
-  -- r0 stays 0, and status, estatus and bstatus stay 0 or 1
-  pub stays-sound : Sound (runOf m read written s S lines budget .config)
-  stays-sound = rw (run-is) (kept S lines budget s m began .config)
-
-  -- a byte that no store addressed keeps its value
-  pub byte-stays : (k : ℕ) → ¬ Stored k (run (machine S lines (length m)) budget s m .accesses) → getD (runOf m read written s S lines budget .memory) k 0 ≡ getD m k 0
-  byte-stays k f = rw (run-is) (theory.keeps (machine S lines (length m)) budget s m k f)
-
-  -- memory and maps keep their lengths
-  pub lengths-stay : (length (runOf m read written s S lines budget .memory) ≡ length m)
-      × (length (runOf m read written s S lines budget .maps .readFirst) ≡ length read) × (length (runOf m read written s S lines budget .maps .written) ≡ length written)
-  lengths-stay =
-      rw (run-is)
-      (let l = mark-lengths (run (machine S lines (length m)) budget s m .accesses) (pair read written) in
-      (theory.keeps-length (machine S lines (length m)) budget s m, l .readFirst, l .written))
+pub accepted-sound : (len read written : ℕ) (S : Settings) (s : State) (budget : ℕ) → runRefusal len read written S s budget ≡ 0 → Sound s
+unfolding runRefusal
+accepted-sound len read written S s budget z =
+    let g = in-order (runTests len read written S s budget) 0 .0 (sym z) in
+    good-state s (none-given 3 (none-given 2 (none-given 1 (none-given 0 g .1) .1) .1) .0)
