@@ -21,7 +21,7 @@ use Rattle.machine.specs.Calls.{freshRefusal, runRefusal, editRefusal, L
 use Rattle.machine.specs.Calls.{unlessStarted, started, freshState, freshOf, unlessBad, asked, editOf}
 use Rattle.machine.specs.Step.{machine}
 
-neither : (a b : Bool) → (a || b) ≡ false → (a ≡ false) × (b ≡ false)
+pub neither : (a b : Bool) → (a || b) ≡ false → (a ≡ false) × (b ≡ false)
 neither true b e = absurd (let z : _≡_ {A = ℕ} 0 1 = cc in omega arith)
 neither false b e = (refl, e)
 

@@ -28,6 +28,7 @@ use Rattle.isa.specs.Words.{kindOf, fieldsOf}
 use Rattle.promise.proofs.Reasons.{Named, exec-named}
 use Rattle.machine.specs.Calls.{badState, runTests, runRefusal}
 use Rattle.trace.proofs.Theorems as theory
+use Rattle.machine.proofs.Accepted.{neither}
 use Rattle.promise.specs.Calls.{Sound}
 use Rattle.promise.proofs.Numbers.{in-order}
 
@@ -141,10 +142,6 @@ kept S lines budget s m h =
 none-given : {rest : Type 0} {b : Bool} (k : ℕ) → ((b ≡ true) × (0 ≡ suc k)) ⊎ ((b ≡ false) × rest) → (b ≡ false) × rest
 none-given k (inl x) = absurd (omega (arith, x .1))
 none-given k (inr x) = x
-
-neither : (a b : Bool) → (a || b) ≡ false → (a ≡ false) × (b ≡ false)
-neither true b e = absurd (let z : _≡_ {A = ℕ} 0 1 = cc in omega arith)
-neither false b e = (refl, e)
 
 good-state : (s : State) → badState s ≡ false → Sound s
 good-state s e =
