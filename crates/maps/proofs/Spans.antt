@@ -35,9 +35,9 @@ each_parts : (f : ℕ → Access) (i w k : ℕ) → each f k (i + w) ≡ each f 
 each_parts f zero w k = rw (zero-add, add-zero)
 each_parts f (suc i) w k = rw (suc-add i w, add-suc k i) (ap (λ l. f k ∷ l) (each_parts f i w (suc k) ∙ ap (λ (x : ℕ). each f (suc k) i ++ each f x w) (suc-add k i)))
 
--- to mark i bytes, then the next w, is to mark i + w
-pub mark_parts : (f : ℕ → Access) (i w k : ℕ) (p : Maps) {q r : Maps} → q ≡ mark (each f k i) p → r ≡ mark (each f (k + i) w) q → r ≡ mark (each f k (i + w)) p
-mark_parts f i w k p g h = rw (each_parts f i w k, mark-append, ← g) h
+-- to mark i + w bytes is to mark i of them, then w
+pub mark_parts : (f : ℕ → Access) (i w k : ℕ) (p : Maps) → mark (each f k (i + w)) p ≡ mark (each f (k + i) w) (mark (each f k i) p)
+mark_parts f i w k p = ap (λ l. mark l p) (each_parts f i w k) ∙ mark-append (each f k i) (each f (k + i) w) p
 
 -- one byte that is read, by its written bit
 module _ (first written : List ℕ) (k : ℕ) where

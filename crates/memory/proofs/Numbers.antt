@@ -8,15 +8,12 @@ use native.Mathlib.Omega.{arith}
 use lib.ListN.{get_or, set}
 use Rattle.trace.specs.Access.{number, put}
 
-put_both : (i w : ℕ) (m : List ℕ) (a v : ℕ) → put m a (i + w) v ≡ put (put m a i v) (a + i) w (v / 256 ^ i)
-put_both zero w m a v = rw (zero-add, add-zero, div-one)
-put_both (suc i) w m a v =
+-- to put i + w bytes is to put i of them, then w with the rest of the number
+pub put_parts : (i w : ℕ) (m : List ℕ) (a v : ℕ) → put m a (i + w) v ≡ put (put m a i v) (a + i) w (v / 256 ^ i)
+put_parts zero w m a v = rw (zero-add, add-zero, div-one)
+put_parts (suc i) w m a v =
     rw (suc-add i w, add-suc a i, pow-succ' 256 i, ← div-div-eq-div-mul)
-    (put_both i w (set m a (v % 256)) (suc a) (v / 256) ∙ ap (λ (x : ℕ). put (put (set m a (v % 256)) (suc a) i (v / 256)) x w (v / 256 / 256 ^ i)) (suc-add a i))
-
--- to put i bytes, then w with the rest of the number, is to put i + w
-pub put_parts : (i w : ℕ) (l : List ℕ) (a v : ℕ) {m n : List ℕ} → m ≡ put l a i v → n ≡ put m (a + i) w (v / 256 ^ i) → n ≡ put l a (i + w) v
-put_parts i w l a v g h = rw (put_both i w l a v, ← g) h
+    (put_parts i w (set m a (v % 256)) (suc a) (v / 256) ∙ ap (λ (x : ℕ). put (put (set m a (v % 256)) (suc a) i (v / 256)) x w (v / 256 / 256 ^ i)) (suc-add a i))
 
 module _ (m : List ℕ) (a : ℕ) where
   pub number-2 : get_or m a 0 + get_or m (a + 1) 0 * 256 ≡ number m a 2

@@ -12,12 +12,11 @@ use lib.ListN.{length}
 use Rattle.maps.specs.Pair.{none_set}
 use Rattle.state.specs.declared.State.{State}
 use Rattle.state.specs.declared.Settings.{Settings}
-use Rattle.state.specs.Words.{state_length, state_of, words_of, settings_length, settings_of}
-use Rattle.accept.specs.Refusals.{bad_memory, bad_map, bad_range, edit_refusal}
 use Rattle.machine.specs.declared.Start.{Start}
 use Rattle.machine.specs.declared.Answered.{Answered}
-use Rattle.machine.specs.Calls.{started, fresh_of, answered, run_of, unless_bad, asked, edit_of}
-use Rattle.nios2c.specs.Words.{fits, afresh, fresh_given, fresh_words, ran, run_words, number_of}
+use Rattle.machine.specs.Calls.{bad_memory, bad_map, bad_range, edit_refusal, unless_bad, asked, edit_of}
+use Rattle.machine.specs.Calls.{started, fresh_of, answered, run_of}
+use Rattle.nios2c.specs.Words.{state_of, words_of, settings_of, fits, afresh, fresh_given, fresh_words, ran, run_words, number_of}
 
 -- ---- lengths
 
@@ -25,52 +24,42 @@ both : (a b : Bool) → (a && b) ≡ true → (a ≡ true) × (b ≡ true)
 both true b e = (refl, e)
 both false b e = absurd (let z : ◌≡◌ {A = ℕ} 0 1 = cc in omega arith)
 
-pub lengths : (m n : ℕ) (b : Bool) → b ≡ fits m n → b ≡ true → (m ≡ state_length) × (n ≡ settings_length)
-lengths m n b e t =
-    let x = both (eqb m state_length) (eqb n settings_length) (sym e ∙ t) in
-    (eqb-true m state_length x.0, eqb-true n settings_length x.1)
+pub lengths : (m n : ℕ) (b : Bool) → b ≡ fits m n → b ≡ true → (m ≡ 37) × (n ≡ 6)
+lengths m n b e t = let x = both (eqb m 37) (eqb n 6) (sym e ∙ t) in (eqb-true m 37 x.0, eqb-true n 6 x.1)
 
 -- ---- a fresh start
 
-module _ (len : ℕ) (first written state settings : List ℕ) where
-  pub fresh_given_lem : (old : State) (S : Settings) (x : Start) (first' written' state' : List ℕ)
-      → old ≡ state_of state → S ≡ settings_of settings → started x first' written' ≡ fresh_of len first written old S → state' ≡ words_of x.state
-      → afresh x.number first' written' state' ≡ fresh_given (fresh_of len first written (state_of state) (settings_of settings))
-  fresh_given_lem old S x first' written' state' a b h e = rw e (ap fresh_given (rw (a, b) at h))
+module _ (len : ℕ) (read written state settings : List ℕ) where
+  pub fresh_given_lem : (old : State) (S : Settings) (x : Start) (read' written' state' : List ℕ)
+      → old ≡ state_of state → S ≡ settings_of settings → started x read' written' ≡ fresh_of len read written old S → state' ≡ words_of x.state
+      → afresh x.number read' written' state' ≡ fresh_given (fresh_of len read written (state_of state) (settings_of settings))
+  fresh_given_lem old S x read' written' state' a b h e = rw e (ap fresh_given (rw (a, b) at h))
 
   module _ (b : Bool) (e : b ≡ fits (length state) (length settings)) where
-    pub fresh_fits : b ≡ true → (n : ℕ) (first' written' state' : List ℕ)
-        → afresh n first' written' state' ≡ fresh_given (fresh_of len first written (state_of state) (settings_of settings))
-        → afresh n first' written' state' ≡ fresh_words len first written state settings
+    pub fresh_fits : b ≡ true → fresh_given (fresh_of len read written (state_of state) (settings_of settings)) ≡ fresh_words len read written state settings
     unfolding fresh_words
-    fresh_fits t n first' written' state' h = rw (sym e ∙ t) h
+    fresh_fits t = rw (sym e ∙ t)
 
-    pub fresh_unfit : b ≡ false → afresh 255 first written state ≡ fresh_words len first written state settings
+    pub fresh_unfit : b ≡ false → afresh 255 read written state ≡ fresh_words len read written state settings
     unfolding fresh_words
     fresh_unfit t = rw (sym e ∙ t)
 
 -- ---- a run
 
-module _ (m first written state settings : List ℕ) (lines budget : ℕ) where
-  pub run_given : (old : State) (S : Settings) (x : Answered) (m' first' written' : List ℕ)
-      → old ≡ state_of state → S ≡ settings_of settings → answered x m' first' written' ≡ run_of m first written old S lines budget
-      → answered x m' first' written' ≡ run_of m first written (state_of state) (settings_of settings) lines budget
-  run_given old S x m' first' written' a b h = rw (a, b) at h
-
-module _ (m first written state settings : List ℕ) (lines budget : ℕ) (answer : List ℕ) where
-  pub run_untold : length answer ≢ 2 → ran m first written state answer ≡ run_words m first written state settings lines budget answer
+module _ (m read written state settings : List ℕ) (lines budget : ℕ) (answer : List ℕ) where
+  pub run_untold : length answer ≢ 2 → ran m read written state answer ≡ run_words m read written state settings lines budget answer
   unfolding run_words
   run_untold f = rw (ne_eqb (length answer) 2 f)
 
   module _ (two : length answer ≡ 2) (b : Bool) (e : b ≡ fits (length state) (length settings)) (answer' : List ℕ) where
-    pub run_fits : b ≡ true → (x : Answered) (m' first' written' state' : List ℕ)
-        → answered x m' first' written' ≡ run_of m first written (state_of state) (settings_of settings) lines budget
+    pub run_fits : b ≡ true → (x : Answered) (m' read' written' state' : List ℕ)
+        → answered x m' read' written' ≡ run_of m read written (state_of state) (settings_of settings) lines budget
         → state' ≡ words_of x.state → answer' ≡ x.number ∷ x.steps ∷ []
-        → ran m' first' written' state' answer' ≡ run_words m first written state settings lines budget answer
+        → ran m' read' written' state' answer' ≡ run_words m read written state settings lines budget answer
     unfolding run_words
-    run_fits t x m' first' written' state' h s a = rw (eq-eqb (length answer) 2 two, sym e ∙ t, s, a, ← h)
+    run_fits t x m' read' written' state' h s a = rw (eq-eqb (length answer) 2 two, sym e ∙ t, s, a, ← h)
 
-    pub run_unfit : b ≡ false → answer' ≡ 255 ∷ 0 ∷ [] → ran m first written state answer' ≡ run_words m first written state settings lines budget answer
+    pub run_unfit : b ≡ false → answer' ≡ 255 ∷ 0 ∷ [] → ran m read written state answer' ≡ run_words m read written state settings lines budget answer
     unfolding run_words
     run_unfit t a = rw (eq-eqb (length answer) 2 two, sym e ∙ t, a)
 

@@ -1,21 +1,48 @@
--- The exported calls: what each leaves of all that it is lent, states and settings as words.
+-- The exported calls: states and settings as words, and what each call leaves of all that it is lent.
 -- Assumes nothing.
-use Rattle.std.specs.Prelude.{Bool, ◌&&◌, cond, List, [], ◌∷◌, ℕ, ◌+◌, eqb, length}
+use Rattle.std.specs.Prelude.{Bool, not, ◌&&◌, cond, List, [], ◌∷◌, ◌++◌, ℕ, ◌+◌, eqb, length, get_or, take}
 use Rattle.maps.specs.Pair.{pair}
+use Rattle.state.specs.declared.Core.{Core}
 use Rattle.state.specs.declared.State.{State}
-use Rattle.state.specs.State.{Reason}
-use Rattle.state.specs.Words.{state_length, state_of, words_of, settings_length, settings_of}
+use Rattle.state.specs.declared.Settings.{Settings}
 use Rattle.trace.specs.Maps.{Maps}
 use Rattle.trace.specs.Machine.{Answer}
 use Rattle.machine.specs.declared.Verdict.{Verdict}
 use Rattle.machine.specs.declared.Verdict.TheVariants.{Refused, Yes, No}
 use Rattle.machine.specs.Calls.{Started, fresh_of, run_of, edit_of}
 
--- ---- lengths
+-- ---- words
+
+-- pc, status, estatus, bstatus, ienable: words 32 to 36
+abbrev pub core_of : List ℕ → Core
+core_of l =
+    record { pc = get_or l 32 0; status = get_or l 33 0; estatus = get_or l 34 0; bstatus = get_or l 35 0; ienable = get_or l 36 0 }
+
+abbrev pub core_words : Core → List ℕ
+core_words c = c.pc ∷ c.status ∷ c.estatus ∷ c.bstatus ∷ c.ienable ∷ []
+
+-- a state: r0 to r31, and then the rest
+abbrev pub state_of : List ℕ → State
+state_of l = record { regs = record { r = take 32 l }; core = core_of l }
+
+abbrev pub words_of : State → List ℕ
+words_of s = s.regs.r ++ core_words s.core
+
+-- settings: any word but 0 counts as a unit that is present
+abbrev pub settings_of : List ℕ → Settings
+settings_of l =
+    record {
+      reset = get_or l 0 0;
+      exception = get_or l 1 0;
+      breaks = get_or l 2 0;
+      cpuid = get_or l 3 0;
+      multiplier = not (eqb (get_or l 4 0) 0);
+      divider = not (eqb (get_or l 5 0) 0);
+    }
 
 -- the lengths of a state's words and of settings
 abbrev pub fits : ℕ → ℕ → Bool
-fits state settings = eqb state state_length && eqb settings settings_length
+fits state settings = eqb state 37 && eqb settings 6
 
 -- ---- a fresh start
 
@@ -30,14 +57,14 @@ fresh_given x = record { number = x.result.number; maps = x.maps; state = words_
 
 -- what the code hands back and leaves, as one value
 abbrev pub afresh : ℕ → List ℕ → List ℕ → List ℕ → Fresh
-afresh number first written state = record { number = number; maps = pair first written; state = state }
+afresh number read written state = record { number = number; maps = pair read written; state = state }
 
 -- 255, and nothing changed, where the lengths do not fit
 unfoldable pub fresh_words : ℕ → List ℕ → List ℕ → List ℕ → List ℕ → Fresh
-fresh_words len first written state settings =
+fresh_words len read written state settings =
     cond (fits (length state) (length settings))
-    (fresh_given (fresh_of len first written (state_of state) (settings_of settings)))
-    (afresh 255 first written state)
+    (fresh_given (fresh_of len read written (state_of state) (settings_of settings)))
+    (afresh 255 read written state)
 
 -- ---- a run
 
@@ -48,21 +75,21 @@ pub record Ran : Type 0 where
   pub answer : List ℕ
 
 -- the machine's answer, as words
-abbrev pub ran_given : Answer Reason State → Ran
-ran_given x = record { memory = x.memory; maps = x.maps; state = words_of x.config; answer = x.ending ∷ x.steps ∷ [] }
+abbrev pub ran_given : Answer ℕ State → Ran
+ran_given x = record { memory = x.memory; maps = x.maps; state = words_of x.config; answer = x.reason ∷ x.steps ∷ [] }
 
 -- what the code leaves, as one value
 abbrev pub ran : List ℕ → List ℕ → List ℕ → List ℕ → List ℕ → Ran
-ran m first written state answer = record { memory = m; maps = pair first written; state = state; answer = answer }
+ran m read written state answer = record { memory = m; maps = pair read written; state = state; answer = answer }
 
 -- nothing changed where the answer is not 2 words; 255 and no step, where the other lengths do not fit
 unfoldable pub run_words : List ℕ → List ℕ → List ℕ → List ℕ → List ℕ → ℕ → ℕ → List ℕ → Ran
-run_words m first written state settings lines budget answer =
+run_words m read written state settings lines budget answer =
     cond (eqb (length answer) 2)
     (cond (fits (length state) (length settings))
-    (ran_given (run_of m first written (state_of state) (settings_of settings) lines budget))
-    (ran m first written state (255 ∷ 0 ∷ [])))
-    (ran m first written state answer)
+    (ran_given (run_of m read written (state_of state) (settings_of settings) lines budget))
+    (ran m read written state (255 ∷ 0 ∷ [])))
+    (ran m read written state answer)
 
 -- ---- the edit question
 
@@ -73,4 +100,4 @@ number_of Yes = 1
 number_of No = 0
 
 abbrev pub edit_words : ℕ → List ℕ → ℕ → ℕ → ℕ
-edit_words len first start end = number_of (edit_of len first start end)
+edit_words len read start end = number_of (edit_of len read start end)

@@ -1,19 +1,101 @@
 // The machine for C and Rust: numbers and slices only, and no call asks anything of its caller.
-ghost use Rattle.std.specs.Prelude.{◌≡◌, [], ◌∷◌, ◌^◌, ◌<◌, length};
-ghost use Rattle.state.specs.Words.{state_length, state_of, words_of, settings_length, settings_of};
+ghost use Rattle.std.specs.Prelude.{◌≡◌, [], ◌∷◌, ◌++◌, ◌^◌, ◌<◌, length, take, set};
 ghost use Rattle.machine.specs.Calls.{answered, fresh_of, run_of};
-ghost use Rattle.nios2c.specs.Words.{fits, afresh, fresh_given, fresh_words, ran, run_words, number_of, edit_words};
+ghost use Rattle.nios2c.specs.Words.{core_of, core_words, state_of, words_of, settings_of, fits};
+ghost use Rattle.nios2c.specs.Words.{afresh, fresh_given, fresh_words, ran, run_words, number_of, edit_words};
 
 use machine::{Answered, Verdict};
-use state::{SETTINGS_LENGTH, STATE_LENGTH};
+use state::{Core, Regs, Settings, State};
 
-// ---- lengths, and the answer of a run
+// ---- states and settings as words
 
-// Whether state and settings have the words that they need.
-fn fit(state: usize, settings: usize) -> bool
-    ensures { result ≡ fits state settings }
+fn take_regs(words: &[u32]) -> Regs
+    requires { length words.now ≡ 37 }
+    ensures { result.r ≡ take 32 words.now }
 {
-    (state == STATE_LENGTH) & (settings == SETTINGS_LENGTH)
+    let mut r = [0u32; 32];
+    let mut i = 0;
+    while i < 32 {
+        r[i] = words[i];
+        i += 1;
+    }
+    Regs { r }
+}
+
+fn take_core(words: &[u32]) -> Core
+    requires { length words.now ≡ 37 }
+    ensures { result ≡ core_of words.now }
+{
+    Core {
+        pc: words[32],
+        status: words[33],
+        estatus: words[34],
+        bstatus: words[35],
+        ienable: words[36],
+    }
+}
+
+fn take_state(words: &[u32]) -> State
+    requires { length words.now ≡ 37 }
+    ensures { result ≡ state_of words.now }
+{
+    let regs = take_regs(words);
+    let core = take_core(words);
+    State { regs, core }
+}
+
+fn take_settings(words: &[u32]) -> Settings
+    requires { length words.now ≡ 6 }
+    ensures { result ≡ settings_of words.now }
+{
+    Settings {
+        reset: words[0],
+        exception: words[1],
+        breaks: words[2],
+        cpuid: words[3],
+        multiplier: words[4] != 0,
+        divider: words[5] != 0,
+    }
+}
+
+fn put(words: &mut [u32], i: usize, v: u32)
+    requires { i < length words.old }
+    ensures { words.new ≡ set words.old i v }
+{
+    words[i] = v;
+}
+
+// An array by value: only of that is the length told to a proof.
+fn give_regs(words: &mut [u32], r: [u32; 32])
+    requires { length words.old ≡ 37 }
+    ensures { (take 32 words.new ≡ r) × (length words.new ≡ 37) }
+{
+    let mut i = 0;
+    while i < 32 {
+        words[i] = r[i];
+        i += 1;
+    }
+}
+
+fn give_core(words: &mut [u32], c: Core)
+    requires { length words.old ≡ 37 }
+    ensures { words.new ≡ take 32 words.old ++ core_words c }
+{
+    put(words, 32, c.pc);
+    put(words, 33, c.status);
+    put(words, 34, c.estatus);
+    put(words, 35, c.bstatus);
+    put(words, 36, c.ienable);
+}
+
+fn give_state(words: &mut [u32], s: State)
+    requires { length words.old ≡ 37 }
+    ensures { words.new ≡ words_of s }
+{
+    let r = s.regs.r;
+    let core = s.core;
+    give_regs(words, r);
+    give_core(words, core);
 }
 
 // The answer of a run.
@@ -21,47 +103,54 @@ fn tell(answer: &mut [u32], number: u32, steps: u32)
     requires { length answer.old ≡ 2 }
     ensures { answer.new ≡ number ∷ steps ∷ [] }
 {
-    answer[0] = number;
-    answer[1] = steps;
+    put(answer, 0, number);
+    put(answer, 1, steps);
+}
+
+// Whether state and settings have the words that they need.
+fn fit(state: usize, settings: usize) -> bool
+    ensures { result ≡ fits state settings }
+{
+    (state == 37) & (settings == 6)
 }
 
 // ---- the calls, where the lengths fit
 
 fn fresh_given(
     mem: &[u8],
-    first: &mut [u8],
+    read: &mut [u8],
     written: &mut [u8],
     state: &mut [u32],
     settings: &[u32],
 ) -> u32
-    requires { (length state.old ≡ state_length) × (length settings.now ≡ settings_length) }
-    ensures { afresh result first.new written.new state.new ≡ fresh_given (fresh_of (length mem.now) first.old written.old (state_of state.old) (settings_of settings.now)) }
+    requires { (length state.old ≡ 37) × (length settings.now ≡ 6) }
+    ensures { afresh result read.new written.new state.new ≡ fresh_given (fresh_of (length mem.now) read.old written.old (state_of state.old) (settings_of settings.now)) }
 {
-    let old = state::take_state(state);
-    let s = state::take_settings(settings);
-    let x = machine::fresh(mem, first, written, old, s);
+    let old = take_state(state);
+    let s = take_settings(settings);
+    let x = machine::fresh(mem, read, written, old, s);
     let new = x.state;
-    state::give_state(state, new);
+    give_state(state, new);
     x.number
 }
 
 fn run_given(
     mem: &mut [u8],
-    first: &mut [u8],
+    read: &mut [u8],
     written: &mut [u8],
     state: &mut [u32],
     settings: &[u32],
     lines: u32,
     budget: u32,
 ) -> Answered
-    requires { (length state.old ≡ state_length) × (length settings.now ≡ settings_length) }
-    ensures { (answered result mem.new first.new written.new ≡ run_of mem.old first.old written.old (state_of state.old) (settings_of settings.now) lines budget) × (state.new ≡ words_of result.state) }
+    requires { (length state.old ≡ 37) × (length settings.now ≡ 6) }
+    ensures { (answered result mem.new read.new written.new ≡ run_of mem.old read.old written.old (state_of state.old) (settings_of settings.now) lines budget) × (state.new ≡ words_of result.state) }
 {
-    let old = state::take_state(state);
-    let s = state::take_settings(settings);
-    let x = machine::run(mem, first, written, old, s, lines, budget);
+    let old = take_state(state);
+    let s = take_settings(settings);
+    let x = machine::run(mem, read, written, old, s, lines, budget);
     let new = x.state;
-    state::give_state(state, new);
+    give_state(state, new);
     x
 }
 
@@ -82,15 +171,15 @@ fn number(v: Verdict) -> u32
 #[unsafe(no_mangle)]
 pub extern "C" fn nios2_fresh(
     mem: &[u8],
-    first: &mut [u8],
+    read: &mut [u8],
     written: &mut [u8],
     state: &mut [u32],
     settings: &[u32],
 ) -> u32
-    ensures { afresh result first.new written.new state.new ≡ fresh_words (length mem.now) first.old written.old state.old settings.now }
+    ensures { afresh result read.new written.new state.new ≡ fresh_words (length mem.now) read.old written.old state.old settings.now }
 {
     if fit(state.len(), settings.len()) {
-        return fresh_given(mem, first, written, state, settings);
+        return fresh_given(mem, read, written, state, settings);
     }
     255
 }
@@ -99,7 +188,7 @@ pub extern "C" fn nios2_fresh(
 #[unsafe(no_mangle)]
 pub extern "C" fn nios2_run(
     mem: &mut [u8],
-    first: &mut [u8],
+    read: &mut [u8],
     written: &mut [u8],
     state: &mut [u32],
     settings: &[u32],
@@ -107,13 +196,13 @@ pub extern "C" fn nios2_run(
     budget: u32,
     answer: &mut [u32],
 )
-    ensures { ran mem.new first.new written.new state.new answer.new ≡ run_words mem.old first.old written.old state.old settings.now lines budget answer.old }
+    ensures { ran mem.new read.new written.new state.new answer.new ≡ run_words mem.old read.old written.old state.old settings.now lines budget answer.old }
 {
     if answer.len() != 2 {
         return;
     }
     if fit(state.len(), settings.len()) {
-        let x = run_given(mem, first, written, state, settings, lines, budget);
+        let x = run_given(mem, read, written, state, settings, lines, budget);
         tell(answer, x.number, x.steps);
         return;
     }
@@ -122,8 +211,8 @@ pub extern "C" fn nios2_run(
 
 // Whether an edit of the bytes start..end leaves the run as it is: 1 yes, 0 no, or 256 and a refusal's number.
 #[unsafe(no_mangle)]
-pub extern "C" fn nios2_edit(memory_length: u64, first: &[u8], start: u64, end: u64) -> u32
-    ensures { result ≡ edit_words memory_length first.now start end }
+pub extern "C" fn nios2_edit(memory_length: u64, read: &[u8], start: u64, end: u64) -> u32
+    ensures { result ≡ edit_words memory_length read.now start end }
 {
-    number(machine::edit(memory_length as usize, first, start as usize, end as usize))
+    number(machine::edit(memory_length as usize, read, start as usize, end as usize))
 }

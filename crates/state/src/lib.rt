@@ -114,8 +114,8 @@ pub fn put(r: &mut [u32; 32], i: u32, v: u32)
     }
     let whole = *r;
     let regs = Regs { r: whole };
-    let with = regs.with(i, v);
-    r[k] = with.r[k];
+    let after = regs.with(i, v);
+    r[k] = after.r[k];
 }
 
 // Register i modulo 32.

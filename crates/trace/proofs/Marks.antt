@@ -22,48 +22,48 @@ clash e f = omega arith
 -- ---- the maps keep their lengths
 
 pub record Lengths (p q : Maps) : Type 0 where
-  pub first : length p.first ≡ length q.first
+  pub read_first : length p.read_first ≡ length q.read_first
   pub written : length p.written ≡ length q.written
 
 mark1-lengths : (a : Access) (p : Maps) → Lengths (mark1 a p) p
 mark1-lengths (reads j) p = record {
-  first = rw unless-length;
+  read_first = rw unless-length;
   written = refl;
 }
-mark1-lengths (stores j) p = record { first = refl; written = omega (arith, set_bit-length p.written j) }
+mark1-lengths (stores j) p = record { read_first = refl; written = omega (arith, set_bit-length p.written j) }
 
 pub mark-lengths : (l : List Access) (p : Maps) → Lengths (mark l p) p
-mark-lengths [] p = record { first = refl; written = refl }
+mark-lengths [] p = record { read_first = refl; written = refl }
 mark-lengths (a ∷ l) p =
     let x = mark-lengths l (mark1 a p) in
     let y = mark1-lengths a p in
-    record { first = x.first ∙ y.first; written = x.written ∙ y.written }
+    record { read_first = x.read_first ∙ y.read_first; written = x.written ∙ y.written }
 
 -- both maps have a bit for the byte k
 record Has (p : Maps) (k : ℕ) : Type 0 where
-  first : k / 8 < length p.first
+  first : k / 8 < length p.read_first
   written : k / 8 < length p.written
 
 has-mark1 : (a : Access) (p : Maps) (k : ℕ) → Has p k → Has (mark1 a p) k
-has-mark1 a p k h = record { first = omega (arith, (mark1-lengths a p).first); written = omega (arith, (mark1-lengths a p).written) }
+has-mark1 a p k h = record { first = omega (arith, (mark1-lengths a p).read_first); written = omega (arith, (mark1-lengths a p).written) }
 
 -- ---- one access
 
 -- a read of j marks no other byte
-read_other : (p : Maps) (j k : ℕ) → k ≢ j → bit (mark1 (reads j) p).first k ≡ bit p.first k
+read_other : (p : Maps) (j k : ℕ) → k ≢ j → bit (mark1 (reads j) p).read_first k ≡ bit p.read_first k
 read_other p j k f = rw unless_other
 
 one_first : (a : Access) (p : Maps) (k : ℕ) → Has p k
-    → (bit (mark1 a p).first k ≡ 1) ↔ ((bit p.first k ≡ 1) ⊎ ((bit p.written k ≡ 0) × (a ≡ reads k)))
+    → (bit (mark1 a p).read_first k ≡ 1) ↔ ((bit p.read_first k ≡ 1) ⊎ ((bit p.written k ≡ 0) × (a ≡ reads k)))
 one_first (stores j) p k h = ((λ e. inl e), (λ x. elim x [ inl e ↦ e | inr y ↦ absurd (no_store k j (sym y.1)) ]))
 one_first (reads j) p k h = by_cases (ℕ_discrete k j) (λ e. rw (← e) (same (bit_cases p.written k))) other
   where
     Goal : ℕ → Type 0
-    Goal i = (bit (mark1 (reads i) p).first k ≡ 1) ↔ ((bit p.first k ≡ 1) ⊎ ((bit p.written k ≡ 0) × (reads i ≡ reads k)))
+    Goal i = (bit (mark1 (reads i) p).read_first k ≡ 1) ↔ ((bit p.read_first k ≡ 1) ⊎ ((bit p.written k ≡ 0) × (reads i ≡ reads k)))
 
     same : (bit p.written k ≡ 0) ⊎ (bit p.written k ≡ 1) → Goal k
-    same (inl w) = ((λ x. inr (w, refl)), (λ x. rw (unless_clear (set_bit p.first k) p.first w) (set_bit-same p.first k h.first)))
-    same (inr w) = rw (unless_set (set_bit p.first k) p.first w) ((λ x. inl x), (λ x. elim x [ inl y ↦ y | inr y ↦ absurd (clash w y.0) ]))
+    same (inl w) = ((λ x. inr (w, refl)), (λ x. rw (unless_clear (set_bit p.read_first k) p.read_first w) (set_bit-same p.read_first k h.first)))
+    same (inr w) = rw (unless_set (set_bit p.read_first k) p.read_first w) ((λ x. inl x), (λ x. elim x [ inl y ↦ y | inr y ↦ absurd (clash w y.0) ]))
 
     other : k ≢ j → Goal j
     other f = rw (read_other p j k f) ((λ x. inl x), (λ x. elim x [ inl y ↦ y | inr y ↦ absurd (f (sym (reads_one y.1))) ]))
@@ -89,7 +89,7 @@ link {N} {F} {W} {A} {S} {L} {F₁} {W₁} n f w = ((λ x. to (n.0 x)), (λ y. n
     from (inr y) = elim y.1 [ inl a ↦ inl (f.1 (inr (y.0, a))) | inr z ↦ inr (w.1 (y.0, z.0), z.1) ]
 
 marked_first : (l : List Access) (p : Maps) (k : ℕ) → Has p k
-    → (bit (mark l p).first k ≡ 1) ↔ ((bit p.first k ≡ 1) ⊎ ((bit p.written k ≡ 0) × ReadFirst k l))
+    → (bit (mark l p).read_first k ≡ 1) ↔ ((bit p.read_first k ≡ 1) ⊎ ((bit p.written k ≡ 0) × ReadFirst k l))
 marked_first [] p k h = ((λ e. inl e), (λ x. elim x [ inl e ↦ e | inr y ↦ absurd y.1 ]))
 marked_first (a ∷ l) p k h = link (marked_first l (mark1 a p) k (has-mark1 a p k h)) (one_first a p k h) (one_written a p k h)
 
@@ -111,7 +111,7 @@ module _ (l : List Access) (n k : ℕ) (h : k < 8 * n) where
   has : Has (cleared n) k
   has = record { first = omega (arith, length-replicate {A = ℕ} n 0); written = omega (arith, length-replicate {A = ℕ} n 0) }
 
-  pub exact_first : (bit (mark l (cleared n)).first k ≡ 1) ↔ ReadFirst k l
+  pub exact_first : (bit (mark l (cleared n)).read_first k ≡ 1) ↔ ReadFirst k l
   exact_first =
       let x = marked_first l (cleared n) k has in (
         (λ e. elim (x.0 e) [ inl y ↦ absurd (clash y (clear_bit n k place)) | inr y ↦ y.1 ]),

@@ -28,14 +28,14 @@ module _ {R C : Type 0} (M : Machine R C) (budget : ℕ) (c : C) (m : List ℕ) 
     -- EXACT: from cleared maps, the bits that are set are the run's first reads and its stores
     pub exact : Exactly (run M budget c m).accesses (length m) (answer M budget c m (cleared size)).maps
     exact = record {
-      first = λ k h. exact_first (run M budget c m).accesses size k (omega arith);
+      read_first = λ k h. exact_first (run M budget c m).accesses size k (omega arith);
       written = λ k h. exact_written (run M budget c m).accesses size k (omega arith);
     }
 
     -- SURVIVES: from cleared maps, a memory that is edited in unmarked bytes alone gives the same run
     pub survives : (m' : List ℕ) → Edit (answer M budget c m (cleared size)).maps m m' → Survives m m' (answer M budget c m (cleared size)) (answer M budget c m' (cleared size))
     survives m' edit = record {
-      ending = T.reason;
+      reason = T.reason;
       steps = T.steps;
       config = T.config;
       maps = ap (λ (l : List Access). mark l (cleared size)) T.accesses;
@@ -48,7 +48,7 @@ module _ {R C : Type 0} (M : Machine R C) (budget : ℕ) (c : C) (m : List ℕ) 
         -- a byte past the end reads as 0 in both
         agree : Agree m m' (run M budget c m).accesses
         agree k r = by_cases (dec_lt k (length m))
-            (λ h. edit.marks k h ((exact.first k h).1 r))
+            (λ h. edit.marks k h ((exact.read_first k h).1 r))
             (λ f. get_or-eq_default m 0 (omega arith) ∙ sym (get_or-eq_default m' 0 (omega (arith, edit.lengths))))
 
         T : Twins m m' (run M budget c m) (run M budget c m')

@@ -79,7 +79,7 @@ module _ {R C : Type 0} (m m' : List ℕ) (len : length m ≡ length m') where
     accesses = ap₂ ◌++◌ p T.accesses;
     memory = record {
       lengths = T.memory.lengths;
-      same = λ k z. T.memory.same k (elim z [ inl e ↦ inl (x.same k (inl e)) | inr h ↦ carried k (stored_cases k t (K d n).accesses h) ]);
+      same = λ k z. T.memory.same k (elim z [ inl e ↦ inl (x.same k (inl e)) | inr h ↦ after k (stored_cases k t (K d n).accesses h) ]);
     };
   }
     where
@@ -88,9 +88,9 @@ module _ {R C : Type 0} (m m' : List ℕ) (len : length m ≡ length m') where
       T = rest d n n' x.lengths
           (λ k h. x.same k (by_cases (stored? k t) (λ s. inr s) (λ f. inl (g k (first_right k t (K d n).accesses f h)))))
 
-      carried : (k : ℕ) → Stored k t ⊎ Stored k (K d n).accesses → Same n n' k ⊎ Stored k (K d n).accesses
-      carried k (inl s) = inl (x.same k (inr s))
-      carried k (inr h) = inr h
+      after : (k : ℕ) → Stored k t ⊎ Stored k (K d n).accesses → Same n n' k ⊎ Stored k (K d n).accesses
+      after k (inl s) = inl (x.same k (inr s))
+      after k (inr h) = inr h
 
 pub run_twins : {R C : Type 0} (M : Machine R C) (budget : ℕ) (c : C) (m m' : List ℕ) → length m ≡ length m'
     → Agree m m' (run M budget c m).accesses → Twins m m' (run M budget c m) (run M budget c m')

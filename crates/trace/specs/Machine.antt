@@ -1,7 +1,7 @@
 -- A machine over memory, for any reasons R, any configuration C (all that is not memory and no map) and any rule of a step.
 -- The rule names no memory and no map: it says which bytes it wants, and goes on by their number.
 -- Assumes nothing.
-use Rattle.std.specs.Prelude.{List, [], ◌++◌, ℕ, zero, suc, ◌+◌}
+use Rattle.std.specs.Prelude.{List, [], ◌++◌, ℕ, zero, suc}
 use Rattle.trace.specs.Access.{Access, reads, stores, each, number, put}
 use Rattle.trace.specs.Maps.{Maps, mark}
 
@@ -84,20 +84,16 @@ module _ {R C : Type 0} where
   run M zero c m = record { reason = M.spent; steps = 0; config = c; memory = m; accesses = [] }
   run M (suc budget) c m = continue c m (touched (M.attempt c) m) (perform (M.attempt c) m) (run M budget)
 
--- what the caller of a run gets: its reason is how it ended, and its accesses are marked in the maps that it lent
+-- what the caller of a run gets: its accesses are marked in the maps that it lent
 pub record Answer (R C : Type 0) : Type 0 where
-  pub ending : R
+  pub reason : R
   pub steps : ℕ
   pub config : C
   pub memory : List ℕ
   pub maps : Maps
 
 abbrev pub marked : {R C : Type 0} → Run R C → Maps → Answer R C
-marked r p = record { ending = r.reason; steps = r.steps; config = r.config; memory = r.memory; maps = mark r.accesses p }
+marked r p = record { reason = r.reason; steps = r.steps; config = r.config; memory = r.memory; maps = mark r.accesses p }
 
 abbrev pub answer : {R C : Type 0} → Machine R C → ℕ → C → List ℕ → Maps → Answer R C
 answer M budget c m p = marked (run M budget c m) p
-
--- an answer that comes after i steps
-abbrev pub later : {R C : Type 0} → ℕ → Answer R C → Answer R C
-later i a = record { ending = a.ending; steps = i + a.steps; config = a.config; memory = a.memory; maps = a.maps }

@@ -16,15 +16,14 @@ abbrev pub unless : ℕ → List ℕ → List ℕ → List ℕ
 unless zero x y = x
 unless (suc b) x y = y
 
--- `first` is the map of bytes read first
 pub record Maps : Type 0 where
-  pub first : List ℕ
+  pub read_first : List ℕ
   pub written : List ℕ
 
 -- a byte read sets its read-first bit unless its written bit is set; a byte stored sets its written bit
 abbrev pub mark1 : Access → Maps → Maps
-mark1 (reads k) p = record { first = unless (bit p.written k) (set_bit p.first k) p.first; written = p.written }
-mark1 (stores k) p = record { first = p.first; written = set_bit p.written k }
+mark1 (reads k) p = record { read_first = unless (bit p.written k) (set_bit p.read_first k) p.read_first; written = p.written }
+mark1 (stores k) p = record { read_first = p.read_first; written = set_bit p.written k }
 
 abbrev pub mark : List Access → Maps → Maps
 mark [] p = p
@@ -32,4 +31,4 @@ mark (a ∷ l) p = mark l (mark1 a p)
 
 -- cleared maps of n bytes each
 abbrev pub cleared : ℕ → Maps
-cleared n = record { first = replicate n 0; written = replicate n 0 }
+cleared n = record { read_first = replicate n 0; written = replicate n 0 }

@@ -100,9 +100,7 @@ module _ (a b : ℕ) (fa : a < 2 ^ 32) (fb : b < 2 ^ 32) where
       (λ l. rw (signed_low 32 a h, signed_high 32 b (omega arith) fb) (le-ltb (add_of a (2 ^ 31)) (add_of b (2 ^ 31)) (omega arith))))
       (λ h. by_cases (dec_lt b (2 ^ 31))
       (λ l. rw (signed_high 32 a (omega arith) fa, signed_low 32 b l) (lt-ltb (add_of a (2 ^ 31)) (add_of b (2 ^ 31)) (omega arith)))
-      (λ l.
-      rw (signed_high 32 a (omega arith) fa, signed_high 32 b (omega arith) fb)
-      (same_order (add_of a (2 ^ 31)) (add_of b (2 ^ 31)) (2 ^ 32 - suc b) (2 ^ 32 - suc a) (λ x. omega arith) (λ x. omega arith))))
+      (λ l. rw (signed_high 32 a (omega arith) fa, signed_high 32 b (omega arith) fb) (same_order (add_of a (2 ^ 31)) (add_of b (2 ^ 31)) (2 ^ 32 - suc b) (2 ^ 32 - suc a) (λ x. omega arith) (λ x. omega arith))))
 
 -- ---- arithmetic shift: of a negative word, the shift of the word turned over, turned over again
 

@@ -15,10 +15,7 @@ returns c = rw (eq-eqb (op_of c.before.before.args.word) 0x3A (omega arith)) c.o
 
 returns-2 : tie.Need-returns-2
 unfolding kind_of op_kind
-returns-2 c =
-    let w = c.before.before.args.word in
-    let op : w % 64 ≡ op_of w = omega arith in
-    rw (ne_eqb (op_of w) 0x3A (λ e. c.before.if1.false (op ∙ e))) (c.op-kind.ensures ∙ ap op_kind op)
+returns-2 c = let op : c.before.before.args.word % 64 ≡ op_of c.before.before.args.word = omega arith in rw (ne_eqb (op_of c.before.before.args.word) 0x3A (λ e. c.before.if1.false (op ∙ e))) (c.op-kind.ensures ∙ ap op_kind op)
 
 pub decode-spec : {M : Type 1} → statement M
 decode-spec = tie.close (tie.spec (λ c. search rules) (λ c κs. search rules) returns (λ c. search rules) (λ c κs. search rules) returns-2)

@@ -1,6 +1,9 @@
 -- `maps::read4` meets its contract: one part, then the other.
 -- Assumes nothing.
-use Rattle.trace.specs.Access.{reads}
+use mathlib.Core.Path.{sym, ap, ◌∙◌}
+use Prim.Native.Nat.{◌+◌}
+use Rattle.trace.specs.Access.{reads, each}
+use Rattle.trace.specs.Maps.{mark}
 use Rattle.maps.specs.Pair.{pair}
 use Rattle.maps.proofs.Spans.{mark_parts}
 use borrow.Author.Rules.{rules}
@@ -8,11 +11,7 @@ use Rattle.maps.proofs.read4.Statement.{statement}
 use Rattle.maps.proofs.read4.Tie as tie
 
 returns : tie.Need-returns
-returns c =
-    let b4 = c.before.before.before.before in
-    let b11 = b4.before.before.before.before.before.before.before in
-    let a = b11.before.before.before.before.before.args in
-    mark_parts reads 2 2 a.k (pair a.first.now a.written.now) b11.read2.ensures b4.read22.ensures
+returns c = c.before.before.before.before.read22.ensures ∙ ap (mark (each reads (c.before.before.before.before.before.before.before.before.before.before.before.before.before.before.before.before.args.k + 2) 2)) c.before.before.before.before.before.before.before.before.before.before.before.read2.ensures ∙ sym (mark_parts reads 2 2 c.before.before.before.before.before.before.before.before.before.before.before.before.before.before.before.before.args.k (pair c.before.before.before.before.before.before.before.before.before.before.before.before.before.before.before.before.args.first.now c.before.before.before.before.before.before.before.before.before.before.before.before.before.before.before.before.args.written.now))
 
 pub read4-spec : {M : Type 1} → statement M
 read4-spec = tie.close (tie.spec (λ c κs. search rules) (λ c. search rules) (λ c κs. search rules) (λ c. search rules) (λ c. search rules) returns)

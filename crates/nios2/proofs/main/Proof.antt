@@ -42,21 +42,13 @@ array-borrow-prefix-read : tie.Need-array-borrow-prefix-read
 array-borrow-prefix-read c = search rules
 
 slice-aggregate-lines-2 : tie.Need-slice-aggregate-lines-2
-slice-aggregate-lines-2 c =
-    let b2 = c.before.before in
-    let b4 = b2.before.before in
-    let b = b4.before.before.before.buffer in
-    sym (length-take-le (b4.read-full.result / 8) b.result (omega (arith, b.ensures, b2.if1.false)))
+slice-aggregate-lines-2 c = sym (length-take-le (c.before.before.before.before.read-full.result / 8) c.before.before.before.before.before.before.before.buffer.result (omega (arith, c.before.before.before.before.before.before.before.buffer.ensures, c.before.before.if1.false)))
 
 array-borrow-prefix-written : tie.Need-array-borrow-prefix-written
 array-borrow-prefix-written c = search rules
 
 slice-aggregate-lines-3 : tie.Need-slice-aggregate-lines-3
-slice-aggregate-lines-3 c =
-    let b3 = c.before.before.before in
-    let b5 = b3.before.before in
-    let b = b5.before.before.buffer2 in
-    sym (length-take-le (b5.read-full.result / 8) b.result (omega (arith, b.ensures, b3.if1.false)))
+slice-aggregate-lines-3 c = sym (length-take-le (c.before.before.before.before.before.read-full.result / 8) c.before.before.before.before.before.before.before.buffer2.result (omega (arith, c.before.before.before.before.before.before.before.buffer2.ensures, c.before.before.before.if1.false)))
 
 lines-requires : tie.Need-lines-requires
 lines-requires c κs = search rules

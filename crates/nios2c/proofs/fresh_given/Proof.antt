@@ -7,25 +7,7 @@ use Rattle.nios2c.proofs.fresh_given.Statement.{statement}
 use Rattle.nios2c.proofs.fresh_given.Tie as tie
 
 returns : tie.Need-returns
-returns c =
-    let b9 = c.before.before.before.before.before.before.before.before.before in
-    let b12 = b9.before.before.before in
-    let a = b12.before.before.before.before.before.before.before.before.args in
-    fresh_given_lem (length a.mem.now) a.first.now a.written.now a.state.now a.settings.now _ _ b9.fresh.result _ _ _
-    b12.before.take-state.ensures
-    b12.take-settings.ensures
-    b9.fresh.ensures
-    c.before.before.give-state.ensures
+returns c = let a = c.before.before.before.before.before.before.before.before.before.before.before.before.before.before.before.before.before.before.before.before.args in fresh_given_lem (length a.mem.now) a.read.now a.written.now a.state.now a.settings.now _ _ c.before.before.before.before.before.before.before.before.before.fresh.result _ _ _ c.before.before.before.before.before.before.before.before.before.before.before.before.before.take-state.ensures c.before.before.before.before.before.before.before.before.before.before.before.before.take-settings.ensures c.before.before.before.before.before.before.before.before.before.fresh.ensures c.before.before.give-state.ensures
 
 pub fresh-given-spec : {M : Type 1} → statement M
-fresh-given-spec =
-    tie.close
-    (tie.spec
-    (λ c κs. search rules)
-    (λ c κs. search rules)
-    (λ c κs. search rules)
-    (λ c κs. search rules)
-    (λ c. search rules)
-    (λ c. search rules)
-    (λ c. search rules)
-    returns)
+fresh-given-spec = tie.close (tie.spec (λ c κs. search rules) (λ c κs. search rules) (λ c κs. search rules) (λ c κs. search rules) (λ c. search rules) (λ c. search rules) (λ c. search rules) returns)

@@ -6,9 +6,7 @@ use Rattle.nios2c.proofs.nios2_edit.Statement.{statement}
 use Rattle.nios2c.proofs.nios2_edit.Tie as tie
 
 number-requires : tie.Need-number-requires
-number-requires c κs =
-    let a = c.before.before.args in
-    rw c.edit.ensures (edit_small a.memory-length a.first.now a.start a.end)
+number-requires c κs = let a = c.before.before.args in rw c.edit.ensures (edit_small a.memory-length a.read.now a.start a.end)
 
 returns : tie.Need-returns
 returns c = rw (c.number.ensures, c.before.edit.ensures)

@@ -6,47 +6,16 @@ use Rattle.nios2c.proofs.nios2_run.Statement.{statement}
 use Rattle.nios2c.proofs.nios2_run.Tie as tie
 
 returns : tie.Need-returns
-returns c =
-    let a = c.before.before.before.before.before.before.before.args in
-    run_untold a.mem.now a.first.now a.written.now a.state.now a.settings.now a.lines a.budget a.answer.now c.if1.true
+returns c = let a = c.before.before.before.before.before.before.before.args in run_untold a.mem.now a.read.now a.written.now a.state.now a.settings.now a.lines a.budget a.answer.now c.if1.true
 
 run-given-requires : tie.Need-run-given-requires
-run-given-requires c κs =
-    let b = c.before.before.before.before in
-    lengths _ _ _ b.before.fit.ensures b.if2.true
+run-given-requires c κs = lengths _ _ _ c.before.before.before.before.before.fit.ensures c.before.before.before.before.if2.true
 
 returns-2 : tie.Need-returns-2
-returns-2 c =
-    let b12 = c.before.before.before.before.before.before.before.before.before.before.before.before in
-    let b17 = b12.before.before.before.before.before in
-    let b19 = b17.before.before in
-    let a = b19.before.before.before.before.before.before.before.args in
-    run_fits a.mem.now a.first.now a.written.now a.state.now a.settings.now a.lines a.budget a.answer.now
-    b19.if1.false _ b17.before.fit.ensures _ b17.if2.true
-    b12.run_given.result _ _ _ _ b12.run_given.ensures.0 b12.run_given.ensures.1 c.before.before.tell.ensures
+returns-2 c = let a = c.before.before.before.before.before.before.before.before.before.before.before.before.before.before.before.before.before.before.before.before.before.before.before.before.before.before.args in run_fits a.mem.now a.read.now a.written.now a.state.now a.settings.now a.lines a.budget a.answer.now c.before.before.before.before.before.before.before.before.before.before.before.before.before.before.before.before.before.before.before.if1.false _ c.before.before.before.before.before.before.before.before.before.before.before.before.before.before.before.before.before.before.fit.ensures _ c.before.before.before.before.before.before.before.before.before.before.before.before.before.before.before.before.before.if2.true c.before.before.before.before.before.before.before.before.before.before.before.before.run-given.result _ _ _ _ c.before.before.before.before.before.before.before.before.before.before.before.before.run-given.ensures.0 c.before.before.before.before.before.before.before.before.before.before.before.before.run-given.ensures.1 c.before.before.tell.ensures
 
 returns-3 : tie.Need-returns-3
-returns-3 c =
-    let b4 = c.before.before.before.before in
-    let b6 = b4.before.before in
-    let a = b6.before.before.before.before.before.before.before.args in
-    run_unfit a.mem.now a.first.now a.written.now a.state.now a.settings.now a.lines a.budget a.answer.now
-    b6.if1.false _ b4.before.fit.ensures _ b4.if2.false c.before.before.tell2.ensures
+returns-3 c = let a = c.before.before.before.before.before.before.before.before.before.before.before.before.before.args in run_unfit a.mem.now a.read.now a.written.now a.state.now a.settings.now a.lines a.budget a.answer.now c.before.before.before.before.before.before.if1.false _ c.before.before.before.before.before.fit.ensures _ c.before.before.before.before.if2.false c.before.before.tell2.ensures
 
 pub nios2-run-spec : {M : Type 1} → statement M
-nios2-run-spec =
-    tie.close
-    (tie.spec
-    returns
-    (λ c κs. search rules)
-    run-given-requires
-    (λ c κs. search rules)
-    (λ c. search rules)
-    (λ c. search rules)
-    (λ c. search rules)
-    (λ c. search rules)
-    (λ c. search rules)
-    returns-2
-    (λ c κs. search rules)
-    (λ c. search rules)
-    returns-3)
+nios2-run-spec = tie.close (tie.spec returns (λ c κs. search rules) run-given-requires (λ c κs. search rules) (λ c. search rules) (λ c. search rules) (λ c. search rules) (λ c. search rules) (λ c. search rules) returns-2 (λ c κs. search rules) (λ c. search rules) returns-3)

@@ -40,7 +40,4 @@ pub +decimals-spec : {M : Type 1} → statement M
     (λ c. rw (decimal_one c.before.before.before.before.args.n c.before.before.if1.true, ← c.before.before.before.glyph.ensures) c.put.ensures)
     (λ c κs. (omega arith, omega (arith, length_more c.before.before.before.args.n c.before.if1.false)))
     (λ c κs. omega (arith, length_more c.before.before.before.before.before.args.n c.before.before.before.if1.false))
-    (λ c.
-    let b4 = c.before.before.before.before in
-    rw (decimal_more b4.before.before.args.n b4.if1.false, ← b4.before.glyph.ensures)
-    (then c.before.before.decimals.ensures c.put2.ensures))
+    (λ c. rw (decimal_more c.before.before.before.before.before.before.args.n c.before.before.before.before.if1.false, ← c.before.before.before.before.before.glyph.ensures) (then c.before.before.decimals.ensures c.put2.ensures))

@@ -8,22 +8,7 @@ use Rattle.report.proofs.ctl_line.Tie as tie
 
 returns : tie.Need-returns
 unfolding ctl_line
-returns c =
-    let b3 = c.before.before.before in
-    let b6 = b3.before.before.before in
-    let first = b6.before.before.before.labelled.ensures.0 in
-    (simp append_assoc (then first (then b6.labelled2.ensures.0 (then b3.labelled3.ensures.0 c.ended.ensures.0))), search rules)
+returns c = (simp append_assoc (then c.before.before.before.before.before.before.before.before.before.labelled.ensures.0 (then c.before.before.before.before.before.before.labelled2.ensures.0 (then c.before.before.before.labelled3.ensures.0 c.ended.ensures.0))), search rules)
 
 pub ctl-line-spec : {M : Type 1} → statement M
-ctl-line-spec =
-    tie.close
-    (tie.spec
-    (λ c. search rules)
-    (λ c κs. search rules)
-    (λ c. search rules)
-    (λ c κs. search rules)
-    (λ c. search rules)
-    (λ c κs. search rules)
-    (λ c. search rules)
-    (λ c κs. search rules)
-    returns)
+ctl-line-spec = tie.close (tie.spec (λ c. search rules) (λ c κs. search rules) (λ c. search rules) (λ c κs. search rules) (λ c. search rules) (λ c κs. search rules) (λ c. search rules) (λ c κs. search rules) returns)

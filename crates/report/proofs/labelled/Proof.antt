@@ -10,9 +10,7 @@ decimals-requires : tie.Need-decimals-requires
 decimals-requires c κs = omega (arith, few 19 c.before.before.before.before.args.n (search rules))
 
 returns : tie.Need-returns
-returns c =
-    let n = c.before.before.before.before.before.args.n in
-    (then c.before.before.text.ensures c.decimals.ensures, omega (arith, few 19 n (search rules)), λ h. omega (arith, few 1 n h))
+returns c = (then c.before.before.text.ensures c.decimals.ensures, omega (arith, few 19 c.before.before.before.before.before.args.n (search rules)), λ h. omega (arith, few 1 c.before.before.before.before.before.args.n h))
 
 pub labelled-spec : {M : Type 1} → statement M
 labelled-spec = tie.close (tie.spec (λ c κs. search rules) decimals-requires returns)

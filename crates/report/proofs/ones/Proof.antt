@@ -22,30 +22,13 @@ shared-slice-read-wrapping-add-usize :
 shared-slice-read-wrapping-add-usize c = search rules
 
 cast-wrapping-add-usize : tie.Need-overflow-cast-wrapping-add-usize invariant-loop decreases-loop
-cast-wrapping-add-usize c =
-    let b2 = c.before.before in
-    let i = b2.loop.i in
-    omega (arith, ones-le 8 (get_or b2.before.before.args.map.now i 0) (omega (arith, c.shared-slice-known2.given i)))
+cast-wrapping-add-usize c = omega (arith, ones-le 8 (get_or c.before.before.before.before.args.map.now c.before.before.loop.i 0) (omega (arith, c.shared-slice-known2.given c.before.before.loop.i)))
 
 loop-again : tie.Need-loop-preserved invariant-loop decreases-loop
-loop-again c =
-    let b3 = c.before.before.before in
-    counted_more b3.loop.invariant c.before.before.loop-test.true (omega (arith, c.before.shared-slice-known2.given b3.loop.i)) c.wrapping-add-usize.ensures
+loop-again c = counted_more c.before.before.before.loop.invariant c.before.before.loop-test.true (omega (arith, c.before.shared-slice-known2.given c.before.before.before.loop.i)) c.wrapping-add-usize.ensures
 
 returns : tie.Need-returns invariant-loop decreases-loop
 returns c = counted_all c.before.loop.invariant c.loop-test.false
 
 pub ones-spec : {M : Type 1} → statement M
-ones-spec =
-    tie.close
-    (tie.spec
-    invariant-loop
-    decreases-loop
-    loop-holds
-    shared-slice-read-wrapping-add-usize
-    cast-wrapping-add-usize
-    (λ c κs. search rules)
-    (λ c. search rules)
-    (λ c. search rules)
-    loop-again
-    returns)
+ones-spec = tie.close (tie.spec invariant-loop decreases-loop loop-holds shared-slice-read-wrapping-add-usize cast-wrapping-add-usize (λ c κs. search rules) (λ c. search rules) (λ c. search rules) loop-again returns)

@@ -12,12 +12,7 @@ returns c = (rw (eq-eqb c.before.args.v 0 c.if1.true) (none _ _), search rules)
 
 returns-2 : tie.Need-returns-2
 unfolding register_line
-returns-2 c =
-    let b3 = c.before.before.before in
-    let b6 = b3.before.before.before in
-    let l = b3.labelled.ensures in
-    let v = b6.before.args.v in
-    (rw (ne_eqb v 0 b6.if1.false) (simp append_assoc (then l.0 c.ended.ensures.0)), omega (arith, l.2 (search rules)))
+returns-2 c = (rw (ne_eqb c.before.before.before.before.before.before.before.args.v 0 c.before.before.before.before.before.before.if1.false) (simp append_assoc (then c.before.before.before.labelled.ensures.0 c.ended.ensures.0)), omega (arith, c.before.before.before.labelled.ensures.2 (search rules)))
 
 pub register-line-spec : {M : Type 1} → statement M
 register-line-spec = tie.close (tie.spec returns (λ c. search rules) (λ c κs. search rules) (λ c. search rules) (λ c κs. search rules) returns-2)

@@ -8,10 +8,7 @@ use Rattle.report.proofs.report.Tie as tie
 
 returns : tie.Need-returns
 unfolding lines_of
-returns c =
-    let heads = then c.before.before.before.before.before.before.before.stop-line.ensures.0 c.before.before.before.before.before.ctl-line.ensures.0 in
-    let w = fronts (then (then heads c.before.before.register-lines.ensures.0) c.maps-line.ensures.0) in
-    (w.0, w.1, search rules)
+returns c = let w = fronts (then (then (then c.before.before.before.before.before.before.before.stop-line.ensures.0 c.before.before.before.before.before.ctl-line.ensures.0) c.before.before.register-lines.ensures.0) c.maps-line.ensures.0) in (w.0, w.1, search rules)
 
 pub report-spec : {M : Type 1} → statement M
 report-spec = tie.close (tie.spec (λ c κs. search rules) (λ c κs. search rules) (λ c κs. search rules) (λ c κs. search rules) returns)

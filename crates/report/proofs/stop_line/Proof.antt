@@ -8,10 +8,7 @@ use Rattle.report.proofs.stop_line.Tie as tie
 
 returns : tie.Need-returns
 unfolding stop_line
-returns c =
-    let b3 = c.before.before.before in
-    let b6 = b3.before.before.before in
-    (simp append_assoc (then b6.labelled.ensures.0 (then b3.labelled2.ensures.0 c.ended.ensures.0)), search rules)
+returns c = (simp append_assoc (then c.before.before.before.before.before.before.labelled.ensures.0 (then c.before.before.before.labelled2.ensures.0 c.ended.ensures.0)), search rules)
 
 pub stop-line-spec : {M : Type 1} → statement M
 stop-line-spec = tie.close (tie.spec (λ c. search rules) (λ c κs. search rules) (λ c. search rules) (λ c κs. search rules) (λ c. search rules) (λ c κs. search rules) returns)

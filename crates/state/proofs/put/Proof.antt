@@ -11,20 +11,7 @@ returns : tie.Need-returns
 returns c = sym (write_none c.before.args.r.now c.before.args.i c.before.args.v c.if1.true)
 
 returns-2 : tie.Need-returns-2
-returns-2 c =
-    let b = c.before.before.before in
-    let a = b.before.args in
-    taken_back a.r.now a.i a.v c.before.with.result.r (ap (λ (f : Regs). f.r) c.before.with.ensures) b.if1.false
+returns-2 c = taken_back c.before.before.before.before.args.r.now c.before.before.before.before.args.i c.before.before.before.before.args.v c.before.with.result.r (ap (λ (f : Regs). f.r) c.before.with.ensures) c.before.before.before.if1.false
 
 pub put_spec : {M : Type 1} → statement M
-put_spec =
-    tie.close
-    (tie.spec
-    (λ c. search rules)
-    returns
-    (λ c κs. search rules)
-    (λ c. search rules)
-    (λ c. search rules)
-    (λ c. search rules)
-    (λ c. search rules)
-    returns-2)
+put_spec = tie.close (tie.spec (λ c. search rules) returns (λ c κs. search rules) (λ c. search rules) (λ c. search rules) (λ c. search rules) (λ c. search rules) returns-2)

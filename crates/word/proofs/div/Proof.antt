@@ -21,20 +21,7 @@ div-q c = rw c.magnitude2.ensures (magnitude_positive c.before.before.before.bef
 
 returns-3 : tie.Need-returns-3
 unfolding div_of
-returns-3 c =
-    let b2 = c.before.before in
-    let b5 = b2.before.before.before in
-    let a = b5.before.before.args in
-    rw (
-      ne_eqb a.b 0 b5.before.if1.false,
-      b5.if2.false,
-      c.with-sign.ensures,
-      c.before.is-negative2.ensures,
-      b2.is_negative.ensures,
-      b2.before.magnitude2.ensures,
-      b2.before.before.magnitude.ensures,
-    )
-    (ap (λ (z : ℤ). Value (word_of z)) (sym (quotient_by_signs (signed a.a) (signed a.b))))
+returns-3 c = rw (ne_eqb c.before.before.before.before.before.before.before.args.b 0 c.before.before.before.before.before.before.if1.false, c.before.before.before.before.before.if2.false, c.with-sign.ensures, c.before.is-negative2.ensures, c.before.before.is_negative.ensures, c.before.before.before.magnitude2.ensures, c.before.before.before.before.magnitude.ensures) (ap (λ (z : ℤ). Value (word_of z)) (sym (quotient_by_signs (signed c.before.before.before.before.before.before.before.args.a) (signed c.before.before.before.before.before.before.before.args.b))))
 
 pub div-spec : {M : Type 1} → statement M
 div-spec = tie.close (tie.spec returns returns-2 (λ c κs. search rules) (λ c κs. search rules) div-q (λ c κs. search rules) (λ c κs. search rules) (λ c κs. search rules) returns-3)

@@ -9,18 +9,7 @@ use Rattle.word.proofs.mulxss.Tie as tie
 
 returns : tie.Need-returns
 unfolding mulxss_of
-returns c =
-    let b3 = c.before.before.before in
-    let a = b3.before.before.before.args in
-    rw (
-      c.upper.ensures,
-      c.before.product.ensures,
-      c.before.before.magnitude2.ensures,
-      b3.magnitude.ensures,
-      b3.before.is-negative2.ensures,
-      b3.before.before.is_negative.ensures,
-    )
-    (ap upper_of (sym (product_by_signs (signed a.a) (signed a.b))))
+returns c = rw (c.upper.ensures, c.before.product.ensures, c.before.before.magnitude2.ensures, c.before.before.before.magnitude.ensures, c.before.before.before.before.is-negative2.ensures, c.before.before.before.before.before.is_negative.ensures) (ap upper_of (sym (product_by_signs (signed c.before.before.before.before.before.before.args.a) (signed c.before.before.before.before.before.before.args.b))))
 
 pub mulxss-spec : {M : Type 1} → statement M
 mulxss-spec = tie.close (tie.spec (λ c κs. search rules) (λ c κs. search rules) (λ c κs. search rules) (λ c κs. search rules) (λ c κs. search rules) (λ c κs. search rules) returns)

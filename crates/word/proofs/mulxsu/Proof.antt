@@ -9,17 +9,7 @@ use Rattle.word.proofs.mulxsu.Tie as tie
 
 returns : tie.Need-returns
 unfolding mulxsu_of
-returns c =
-    let b2 = c.before.before in
-    let a = b2.before.before.args in
-    rw (
-      c.upper.ensures,
-      c.before.product.ensures,
-      b2.magnitude.ensures,
-      b2.before.is_negative.ensures,
-      product_by_signs (signed a.a) (unsigned a.b),
-      one_sign,
-    )
+returns c = rw (c.upper.ensures, c.before.product.ensures, c.before.before.magnitude.ensures, c.before.before.before.is_negative.ensures, product_by_signs (signed c.before.before.before.before.args.a) (unsigned c.before.before.before.before.args.b), one_sign)
 
 pub mulxsu-spec : {M : Type 1} → statement M
 mulxsu-spec = tie.close (tie.spec (λ c κs. search rules) (λ c κs. search rules) (λ c κs. search rules) (λ c κs. search rules) returns)
