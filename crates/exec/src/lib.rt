@@ -1,4 +1,5 @@
 // What an instruction does: from its kind, fields and operands to an effect. No memory and no state in it.
+#![tactic(auto)]
 ghost use Rattle.std.specs.Prelude.{◌≡◌};
 ghost use Rattle.exec.specs.Exec.{signed_of, call_of, branch_of, present_of, quotient_of, divide_of, load_of, store_of, read_of, write_of, exec_of};
 
@@ -6,7 +7,7 @@ use isa::{Fields, Kind};
 use word::Quotient;
 
 // How much a load or a store moves.
-#[derive(Drop)]
+#[derive(Clone, Copy)]
 pub enum Width {
     Byte,
     Half,
@@ -14,7 +15,7 @@ pub enum Width {
 }
 
 // What a step does to the state and to memory. Register 0 is never written.
-#[derive(Drop)]
+#[derive(Clone, Copy)]
 pub enum Effect {
     // a stop, with its reason
     Stop(u32),

@@ -1,9 +1,10 @@
 // Instruction words: their fields, their kinds, and the two tables by which a word is decoded.
+#![tactic(auto)]
 ghost use Rattle.std.specs.Prelude.{◌≡◌, ◌<◌};
 ghost use Rattle.isa.specs.Words.{fields_of, op_kind, opx_kind, kind_of};
 
 // One for each mnemonic of the list, in the list's order; the io forms after their OP list.
-#[derive(Drop)]
+#[derive(Clone, Copy)]
 pub enum Kind {
     Call,
     Ldbu,
@@ -251,7 +252,7 @@ pub fn decode(word: u32) -> Kind
     op_kind(op as usize)
 }
 
-#[derive(Drop)]
+#[derive(Clone, Copy)]
 pub struct Fields {
     pub a: u32,
     pub b: u32,

@@ -14,14 +14,14 @@ use exec::{Effect, Width};
 use state::{Change, Core, Regs, Settings, State};
 
 // What a step in code comes to: a stop with its reason, or a change of the state.
-#[derive(Drop)]
+#[derive(Clone, Copy)]
 pub enum Turn {
     Stop(u32),
     Make(Change),
 }
 
 // The answer of a run: a refusal's number or a reason, the steps made, the state.
-#[derive(Drop)]
+#[derive(Clone, Copy)]
 pub struct Answered {
     pub number: u32,
     pub steps: u32,
@@ -29,14 +29,14 @@ pub struct Answered {
 }
 
 // The answer of a fresh start: a refusal's number or 0, the state.
-#[derive(Drop)]
+#[derive(Clone, Copy)]
 pub struct Start {
     pub number: u32,
     pub state: State,
 }
 
 // The answer of the edit question.
-#[derive(Drop)]
+#[derive(Clone, Copy)]
 pub enum Verdict {
     Refused(u32),
     Yes,

@@ -1,5 +1,6 @@
 // The processor's state and settings: one setter for each word, the one way in which a register is written, and the order of their
 // words.
+#![tactic(auto)]
 ghost use Rattle.std.specs.Prelude.{◌≡◌, ◌++◌, length, take};
 ghost use Rattle.state.specs.State.{with_pc, with_status, with_estatus, with_bstatus, with_ienable};
 ghost use Rattle.state.specs.State.{write, write_regs, read_reg, fresh_state};
@@ -7,13 +8,13 @@ ghost use Rattle.state.specs.Words.{state_length, core_of, core_words, state_of,
 ghost use Rattle.state.specs.Words.{settings_length, settings_of};
 
 // r0 to r31. ea is r29, ba r30, ra r31.
-#[derive(Drop)]
+#[derive(Clone, Copy)]
 pub struct Regs {
     pub r: [u32; 32],
 }
 
 // The rest of the state.
-#[derive(Drop)]
+#[derive(Clone, Copy)]
 pub struct Core {
     pub pc: u32,
     pub status: u32,
@@ -22,14 +23,14 @@ pub struct Core {
     pub ienable: u32,
 }
 
-#[derive(Drop)]
+#[derive(Clone, Copy)]
 pub struct State {
     pub regs: Regs,
     pub core: Core,
 }
 
 // Addresses, the processor's number, and which units are present.
-#[derive(Drop)]
+#[derive(Clone, Copy)]
 pub struct Settings {
     pub reset: u32,
     pub exception: u32,
@@ -40,7 +41,7 @@ pub struct Settings {
 }
 
 // What a step changes: one register, or none where that is register 0, and the rest of the state.
-#[derive(Drop)]
+#[derive(Clone, Copy)]
 pub struct Change {
     pub dest: u32,
     pub value: u32,

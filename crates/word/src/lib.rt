@@ -1,4 +1,6 @@
 // Arithmetic of 32-bit words. Every function is total, and its contract is one equation to a definition of specs/.
+#![tactic(auto)]
+
 ghost use Rattle.std.specs.Prelude.{◌≡◌, ◌*◌, ◌^◌, if◌then◌else◌, unsigned_abs};
 ghost use Rattle.std.proofs.Math.IntN.{sub_ℕ};
 ghost use Rattle.word.specs.Integer.{signed, modulo, word_of, upper_of};
@@ -8,7 +10,7 @@ ghost use Rattle.word.specs.Word.{mul_of, mulxuu_of, mulxss_of, mulxsu_of, divu_
 ghost use Rattle.word.specs.Word.{sll_of, srl_of, sra_of, rol_of, ror_of, and_of, or_of, xor_of, nor_of};
 
 // What a division gives. That the last two stop a run is for the step to say.
-#[derive(Drop)]
+#[derive(Clone, Copy)]
 pub enum Quotient {
     Value(u32),
     ByZero,
