@@ -1,5 +1,6 @@
 // Instruction words: their fields, their kinds, and the two tables by which a word is decoded.
 #![tactic(auto)]
+
 ghost use Rattle.std.specs.Prelude.{◌≡◌, ◌<◌};
 ghost use Rattle.isa.specs.Words.{fields_of, op_kind, opx_kind, kind_of};
 

@@ -1,6 +1,7 @@
 // The processor's state and settings: one setter for each word, the one way in which a register is written, and the order of their
 // words.
 #![tactic(auto)]
+
 ghost use Rattle.std.specs.Prelude.{◌≡◌, ◌++◌, length, take};
 ghost use Rattle.state.specs.State.{with_pc, with_status, with_estatus, with_bstatus, with_ienable};
 ghost use Rattle.state.specs.State.{write, write_regs, read_reg, fresh_state};

@@ -1,1 +1,3 @@
+#![tactic(auto)]
+
 // The theory behind demand 3, for any machine whatsoever: definitions in specs/, theorems in proofs/, and no function.

@@ -2,7 +2,6 @@
 -- Assumes nothing.
 use Rattle.isa.specs.Words.{op_kind, op_list}
 use Rattle.isa.proofs.Table.{at}
-use borrow.Author.Rules.{rules}
 use Rattle.isa.proofs.op_kind.Goals as goal
 
 pub returns : goal.returns

@@ -1,14 +1,9 @@
 -- `state::give_regs` meets its contract: below i, the words are given.
 -- Assumes nothing.
 use mathlib.Core.Path.{◌∙◌}
-use Prim.Native.Nat.{◌-◌}
-use native.Mathlib.Nat.{le_of_eq}
 use native.Mathlib.Omega.{arith}
-use mir.Syntax.{w32}
-use borrow.Kind.Array.{good_length, e_int}
 use lib.Seq.{take_all}
-use Rattle.state.specs.Words.{state_length}
-use Rattle.state.proofs.Copies.{Copied, copied_more, copied_all}
+use Rattle.state.proofs.Copies.{copied_more, copied_all}
 use borrow.Author.Rules.{rules}
 use Rattle.state.proofs.give_regs.Goals as goal
 

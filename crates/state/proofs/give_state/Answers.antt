@@ -1,6 +1,5 @@
 -- `state::give_state` meets its contract: the registers, and the rest.
 -- Assumes nothing.
-use borrow.Author.Rules.{rules}
 use Rattle.state.proofs.give_state.Goals as goal
 
 pub returns : goal.returns

@@ -3,7 +3,6 @@
 use mathlib.Core.Path.{sym, ap}
 use Rattle.state.specs.declared.Regs.{Regs}
 use Rattle.state.proofs.Writes.{write_none, taken_back}
-use borrow.Author.Rules.{rules}
 use Rattle.state.proofs.put.Goals as goal
 
 pub returns-then-k-eq0 : goal.returns-then-k-eq0

@@ -1,6 +1,5 @@
 -- `state::Regs::with` meets its contract: the one register is set, or none.
 -- Assumes nothing.
-use borrow.Author.Rules.{rules}
 use Rattle.state.proofs.Writes.{write_none, write_one}
 use Rattle.state.proofs.Regs.with.Goals as goal
 

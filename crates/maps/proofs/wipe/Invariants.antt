@@ -1,0 +1,14 @@
+-- `maps::wipe` meets its contract: the bytes below i are wiped.
+-- Assumes nothing.
+use Prim.Native.Nat.{◌-◌}
+use lib.ListN.{length}
+use Rattle.maps.proofs.Ranges.{Wiped, wiped_start, wiped_turn, wiped_end}
+use borrow.Author.Rules.{rules}
+use native.Mathlib.Omega.{arith}
+use Rattle.maps.proofs.wipe.Given as goal
+
+abbrev pub invariant-loop-i : goal.invariant-loop-i
+invariant-loop-i l = Wiped l.initial.map l.map l.i
+
+abbrev pub decreases-loop-i : goal.decreases-loop-i
+decreases-loop-i l = length l.initial.map - l.i

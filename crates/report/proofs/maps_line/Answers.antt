@@ -1,0 +1,10 @@
+-- `report::maps_line` meets its contract: the parts in their order.
+-- Assumes nothing.
+use Rattle.std.proofs.Common.{append_assoc, rules}
+use Rattle.report.specs.Lines.{maps_line}
+use Rattle.report.proofs.Writing.{then}
+use Rattle.report.proofs.maps_line.Goals as goal
+
+pub returns : goal.returns
+unfolding maps_line
+returns c = (simp append_assoc (then c.labelled-a.ensures.0 (then c.labelled-b.ensures.0 c.put.ensures)), search rules)

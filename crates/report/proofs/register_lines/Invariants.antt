@@ -1,0 +1,13 @@
+-- `report::register_lines` meets its contract: below i, the lines are written.
+-- Assumes nothing.
+use Rattle.std.proofs.Common.{◌-◌, rules}
+use Rattle.report.specs.Lines.{register_lines}
+use Rattle.report.proofs.Turns.{Listed, listed_more, listed_all}
+use Rattle.report.proofs.Writing.{none}
+use Rattle.report.proofs.register_lines.Given as goal
+
+abbrev pub invariant-loop-i : goal.invariant-loop-i
+invariant-loop-i l = Listed l.initial.out l.at l.r l.out l.i l.k
+
+abbrev pub decreases-loop-i : goal.decreases-loop-i
+decreases-loop-i l = 32 - l.i
