@@ -1,5 +1,6 @@
 // What an instruction does: from its kind, fields and operands to an effect. No memory and no state in it.
 #![tactic(auto)]
+
 ghost use Rattle.std.specs.Prelude.{◌≡◌};
 ghost use Rattle.exec.specs.Exec.{signed_of, call_of, branch_of, present_of, quotient_of, divide_of, load_of, store_of, read_of, write_of, exec_of};
 

@@ -1,5 +1,6 @@
 // Marks in the two lent maps. Each function asks that both maps have a bit for each of its bytes.
 #![tactic(auto)]
+
 ghost use Rattle.std.specs.Prelude.{◌≡◌, ◌+◌, ◌-◌, ◌*◌, ◌/◌, ◌%◌, ◌^◌, ◌<◌, ◌≤◌, length, replicate};
 ghost use Rattle.trace.specs.Access.{reads, stores, each};
 ghost use Rattle.trace.specs.Maps.{bit, set_bit, mark};

@@ -1,5 +1,6 @@
 // Little-endian numbers in lent memory. Each function asks that its bytes are within the memory.
 #![tactic(auto)]
+
 ghost use Rattle.std.specs.Prelude.{◌≡◌, ◌+◌, ◌<◌, ◌≤◌, length};
 ghost use Rattle.trace.specs.Access.{number, put};
 

@@ -1,4 +1,5 @@
 // The program: a raw image on standard input, the lines of its run on standard output.
+#![tactic(auto)]
 use libc::{STDIN_FILENO, STDOUT_FILENO};
 
 fn say(out: [u8; 1024], n: usize) {

@@ -1,6 +1,5 @@
 -- `exec::branch` meets its contract: a branch that is taken goes by the sum.
 -- Assumes nothing.
-use borrow.Author.Rules.{rules}
 use Rattle.exec.proofs.branch.Goals as goal
 
 pub returns-then-taken : goal.returns-then-taken

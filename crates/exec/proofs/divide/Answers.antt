@@ -1,6 +1,5 @@
 -- `exec::divide` meets its contract: each way rewrites by its test.
 -- Assumes nothing.
-use borrow.Author.Rules.{rules}
 use Rattle.exec.proofs.divide.Goals as goal
 
 pub returns-then-there : goal.returns-then-there

@@ -1,6 +1,5 @@
 -- `exec::load` meets its contract: the address is the sum.
 -- Assumes nothing.
-use borrow.Author.Rules.{rules}
 use Rattle.exec.proofs.load.Goals as goal
 
 pub returns : goal.returns

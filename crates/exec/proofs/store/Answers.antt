@@ -1,6 +1,5 @@
 -- `exec::store` meets its contract: the address is the sum.
 -- Assumes nothing.
-use borrow.Author.Rules.{rules}
 use Rattle.exec.proofs.store.Goals as goal
 
 pub returns : goal.returns

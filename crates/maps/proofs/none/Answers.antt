@@ -1,8 +1,7 @@
 -- `maps::none` meets its contract: the bits below k are seen.
 -- Assumes nothing.
 use mathlib.Core.Path.{sym, ◌∙◌}
-use Prim.Native.Nat.{◌-◌}
-use Rattle.maps.proofs.Ranges.{Seen, seen_start, seen_set, seen_turn, seen_end}
+use Rattle.maps.proofs.Ranges.{seen_start, seen_set, seen_turn, seen_end}
 use native.Mathlib.Omega.{arith}
 use Rattle.maps.proofs.none.Goals as goal
 

@@ -1,9 +1,7 @@
 -- `maps::none` meets its contract: the bits below k are seen.
 -- Assumes nothing.
-use mathlib.Core.Path.{sym, ◌∙◌}
 use Prim.Native.Nat.{◌-◌}
-use Rattle.maps.proofs.Ranges.{Seen, seen_start, seen_set, seen_turn, seen_end}
-use native.Mathlib.Omega.{arith}
+use Rattle.maps.proofs.Ranges.{Seen}
 use Rattle.maps.proofs.none.Given as goal
 
 abbrev pub invariant-loop-k : goal.invariant-loop-k

@@ -2,7 +2,6 @@
 -- Assumes nothing.
 use Rattle.maps.proofs.Spans.{power_fits}
 use Prim.Native.Nat.{◌%◌}
-use borrow.Author.Rules.{rules}
 use native.Mathlib.Omega.{arith}
 use Rattle.maps.proofs.power.Goals as goal
 

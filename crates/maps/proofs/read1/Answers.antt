@@ -5,7 +5,6 @@ use mathlib.Core.List.{List}
 use Prim.Native.Nat.{ℕ}
 use Rattle.maps.specs.Pair.{pair}
 use Rattle.maps.proofs.Spans.{read_written, read_new}
-use borrow.Author.Rules.{rules}
 use Rattle.maps.proofs.read1.Goals as goal
 
 pub returns-then-bit_of-eq1 : goal.returns-then-bit_of-eq1

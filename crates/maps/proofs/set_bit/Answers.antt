@@ -2,7 +2,6 @@
 -- Assumes nothing.
 use mathlib.Core.Path.{◌∙◌}
 use Rattle.maps.proofs.Spans.{set_again}
-use borrow.Author.Rules.{rules}
 use Rattle.maps.proofs.set_bit.Goals as goal
 
 pub returns-then-bit_of-ne0 : goal.returns-then-bit_of-ne0

@@ -4,7 +4,6 @@ use mathlib.Core.Path.{ap}
 use mathlib.Core.List.{List}
 use Prim.Native.Nat.{ℕ}
 use Rattle.maps.specs.Pair.{pair}
-use borrow.Author.Rules.{rules}
 use Rattle.maps.proofs.store1.Goals as goal
 
 pub returns : goal.returns

@@ -6,7 +6,6 @@ use Rattle.trace.specs.Access.{stores, each}
 use Rattle.trace.specs.Maps.{mark}
 use Rattle.maps.specs.Pair.{pair}
 use Rattle.maps.proofs.Spans.{mark_parts}
-use borrow.Author.Rules.{rules}
 use Rattle.maps.proofs.store2.Goals as goal
 
 pub returns : goal.returns

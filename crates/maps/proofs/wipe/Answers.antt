@@ -1,9 +1,6 @@
 -- `maps::wipe` meets its contract: the bytes below i are wiped.
 -- Assumes nothing.
-use Prim.Native.Nat.{◌-◌}
-use lib.ListN.{length}
-use Rattle.maps.proofs.Ranges.{Wiped, wiped_start, wiped_turn, wiped_end}
-use borrow.Author.Rules.{rules}
+use Rattle.maps.proofs.Ranges.{wiped_start, wiped_turn, wiped_end}
 use native.Mathlib.Omega.{arith}
 use Rattle.maps.proofs.wipe.Goals as goal
 

@@ -1,7 +1,6 @@
 -- `memory::load2` meets its contract: two bytes.
 -- Assumes nothing.
 use Rattle.memory.proofs.Numbers.{number-2}
-use borrow.Author.Rules.{rules}
 use Rattle.memory.proofs.load2.Goals as goal
 
 pub returns : goal.returns

@@ -1,7 +1,6 @@
 -- `memory::load4` meets its contract: four bytes.
 -- Assumes nothing.
 use Rattle.memory.proofs.Numbers.{number-4}
-use borrow.Author.Rules.{rules}
 use Rattle.memory.proofs.load4.Goals as goal
 
 pub returns : goal.returns

@@ -2,7 +2,6 @@
 -- Assumes nothing.
 use mathlib.Core.Path.{sym, ◌∙◌}
 use Rattle.memory.proofs.Numbers.{put_parts}
-use borrow.Author.Rules.{rules}
 use Rattle.memory.proofs.store4.Goals as goal
 
 pub returns : goal.returns

@@ -1,0 +1,14 @@
+-- `machine::steps` meets its contract: the loop's invariant is `Running`.
+-- Assumes nothing.
+use borrow.Author.Rules.{rules}
+use native.Mathlib.Omega.{arith}
+use Prim.Native.Nat.{◌-◌}
+use Rattle.machine.proofs.Running.{Running, state, start, spent, stops, turns}
+use Rattle.machine.proofs.steps.Given as goal
+
+abbrev pub invariant-loop-n : goal.invariant-loop-n
+invariant-loop-n l =
+    Running l.s l.lines l.budget l.initial.mem l.initial.read l.initial.written (state l.initial.regs l.initial.core) l.mem l.read l.written (state l.regs l.core) l.n
+
+abbrev pub decreases-loop-n : goal.decreases-loop-n
+decreases-loop-n l = l.budget - l.n
