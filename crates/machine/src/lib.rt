@@ -1,5 +1,6 @@
 // The machine: one step, a run, a fresh start and the edit question.
 #![tactic(auto)]
+
 ghost use Rattle.std.specs.Prelude.{◌≡◌, ◌+◌, ◌^◌, ◌<◌, ◌≤◌, length};
 ghost use Rattle.trace.specs.Access.{reads, stores, each, number, put};
 ghost use Rattle.trace.specs.Maps.{mark};

@@ -1,5 +1,6 @@
 // The lines that the program prints, written into a lent buffer. Each writer takes the position to write at and hands back the next.
 #![tactic(auto)]
+
 ghost use Rattle.std.specs.Prelude.{◌≡◌, ◌+◌, ◌%◌, ◌^◌, ◌<◌, ◌≤◌, [], ◌∷◌, ◌++◌, length};
 ghost use Rattle.report.specs.Lines.{digit, decimal, hex2, hex4, hex8};
 ghost use Rattle.report.specs.Lines.{stop_line, ctl_line, register_line, register_lines, maps_line, lines_of, refused_of, over, ones_of};

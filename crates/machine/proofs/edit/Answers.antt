@@ -4,7 +4,6 @@ use mathlib.Core.Path.{sym, ◌∙◌}
 use mathlib.Core.Bool.{true, false}
 use lib.ListN.{length}
 use Rattle.machine.proofs.Accepted.{ranged, edit_refused, edit_asked}
-use borrow.Author.Rules.{rules}
 use Rattle.machine.proofs.edit.Goals as goal
 
 pub returns-then-number-ne0 : goal.returns-then-number-ne0

@@ -2,7 +2,6 @@
 -- Assumes nothing.
 use lib.ListN.{length}
 use Rattle.machine.proofs.Accepted.{fresh_refused, fresh_accepted}
-use borrow.Author.Rules.{rules}
 use Rattle.machine.proofs.fresh.Goals as goal
 
 pub returns-then-number-ne0 : goal.returns-then-number-ne0

@@ -1,6 +1,5 @@
 -- `machine::give` meets its contract: each width by its own functions.
 -- Assumes nothing.
-use borrow.Author.Rules.{rules}
 use Rattle.machine.proofs.give.Goals as goal
 
 pub store1-requires : goal.store1-requires

@@ -3,7 +3,6 @@
 use Prim.Native.Nat.{◌+◌}
 use Rattle.machine.specs.Step.{bytes}
 use Rattle.machine.proofs.Rules.{bytes_range, inside, room, load_stops, load_makes}
-use borrow.Author.Rules.{rules}
 use native.Mathlib.Omega.{arith}
 use Rattle.machine.proofs.load.Goals as goal
 

@@ -2,7 +2,6 @@
 -- Assumes nothing.
 use mathlib.Core.Path.{sym, ◌∙◌}
 use Rattle.machine.proofs.Accepted.{lent, run_refused, run_accepted}
-use borrow.Author.Rules.{rules}
 use Rattle.machine.proofs.run.Goals as goal
 
 pub returns-then-number-ne0 : goal.returns-then-number-ne0

@@ -4,7 +4,6 @@ use mathlib.Core.Path.{sym, ◌∙◌}
 use Prim.Native.Nat.{◌+◌}
 use lib.ListN.{length}
 use Rattle.machine.proofs.Rules.{room, not_past, ends_above, ends_interrupted, ends_barred, ends_fetched}
-use borrow.Author.Rules.{rules}
 use Rattle.machine.proofs.step.Goals as goal
 
 pub returns-then-above : goal.returns-then-above

@@ -1,9 +1,7 @@
 -- `machine::steps` meets its contract: the loop's invariant is `Running`.
 -- Assumes nothing.
-use borrow.Author.Rules.{rules}
 use native.Mathlib.Omega.{arith}
-use Prim.Native.Nat.{◌-◌}
-use Rattle.machine.proofs.Running.{Running, state, start, spent, stops, turns}
+use Rattle.machine.proofs.Running.{start, spent, stops, turns}
 use Rattle.machine.proofs.steps.Goals as goal
 
 pub loop-n-init : goal.loop-n-init

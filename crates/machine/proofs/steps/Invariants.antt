@@ -1,9 +1,7 @@
 -- `machine::steps` meets its contract: the loop's invariant is `Running`.
 -- Assumes nothing.
-use borrow.Author.Rules.{rules}
-use native.Mathlib.Omega.{arith}
 use Prim.Native.Nat.{◌-◌}
-use Rattle.machine.proofs.Running.{Running, state, start, spent, stops, turns}
+use Rattle.machine.proofs.Running.{Running, state}
 use Rattle.machine.proofs.steps.Given as goal
 
 abbrev pub invariant-loop-n : goal.invariant-loop-n

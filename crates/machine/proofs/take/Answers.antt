@@ -1,6 +1,5 @@
 -- `machine::take` meets its contract: each width by its own functions.
 -- Assumes nothing.
-use borrow.Author.Rules.{rules}
 use Rattle.machine.proofs.take.Goals as goal
 
 pub read1-requires : goal.read1-requires

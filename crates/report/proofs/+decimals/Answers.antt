@@ -1,6 +1,6 @@
 -- `report::decimals` meets its contract: the digits of a tenth, and then the last.
 -- Assumes nothing.
-use Rattle.std.proofs.Common.{arith, rules}
+use Rattle.std.proofs.Common.{arith}
 use Rattle.report.proofs.Digits.{decimal_one, decimal_more, length_one, length_more}
 use Rattle.report.proofs.Writing.{then}
 use Rattle.report.proofs.+decimals.Goals as goal

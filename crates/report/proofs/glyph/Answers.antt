@@ -1,6 +1,6 @@
 -- `report::glyph` meets its contract: each way rewrites by its test.
 -- Assumes nothing.
-use Rattle.std.proofs.Common.{rules, le-ltb, lt-ltb}
+use Rattle.std.proofs.Common.{le-ltb, lt-ltb}
 use Rattle.report.proofs.glyph.Goals as goal
 
 pub returns-then-n-lt10 : goal.returns-then-n-lt10

@@ -1,9 +1,8 @@
 -- `report::ones` meets its contract: the bytes passed are counted.
 -- Assumes nothing.
-use Rattle.std.proofs.Common.{◌-◌, length, get_or, arith, rules}
-use lib.Count.{ones-le}
+use Rattle.std.proofs.Common.{arith, rules}
 use Rattle.report.specs.Lines.{ones_of}
-use Rattle.report.proofs.Turns.{Counted, counted_more, counted_all}
+use Rattle.report.proofs.Turns.{counted_more, counted_all}
 use Rattle.report.proofs.ones.Goals as goal
 
 pub loop-i-init : goal.loop-i-init

@@ -1,9 +1,7 @@
 -- `report::ones` meets its contract: the bytes passed are counted.
 -- Assumes nothing.
-use Rattle.std.proofs.Common.{◌-◌, length, get_or, arith, rules}
-use lib.Count.{ones-le}
-use Rattle.report.specs.Lines.{ones_of}
-use Rattle.report.proofs.Turns.{Counted, counted_more, counted_all}
+use Rattle.std.proofs.Common.{◌-◌, length}
+use Rattle.report.proofs.Turns.{Counted}
 use Rattle.report.proofs.ones.Given as goal
 
 abbrev pub invariant-loop-i : goal.invariant-loop-i

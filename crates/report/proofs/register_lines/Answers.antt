@@ -1,8 +1,8 @@
 -- `report::register_lines` meets its contract: below i, the lines are written.
 -- Assumes nothing.
-use Rattle.std.proofs.Common.{◌-◌, rules}
+use Rattle.std.proofs.Common.{rules}
 use Rattle.report.specs.Lines.{register_lines}
-use Rattle.report.proofs.Turns.{Listed, listed_more, listed_all}
+use Rattle.report.proofs.Turns.{listed_more, listed_all}
 use Rattle.report.proofs.Writing.{none}
 use Rattle.report.proofs.register_lines.Goals as goal
 

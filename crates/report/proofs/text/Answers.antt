@@ -1,7 +1,7 @@
 -- `report::text` meets its contract: byte by byte, the first i are written.
 -- Assumes nothing.
-use Rattle.std.proofs.Common.{◌-◌, length, arith, rules}
-use Rattle.report.proofs.Turns.{Copied, copied_next, copied_more, copied_all}
+use Rattle.std.proofs.Common.{arith, rules}
+use Rattle.report.proofs.Turns.{copied_next, copied_more, copied_all}
 use Rattle.report.proofs.Writing.{none}
 use Rattle.report.proofs.text.Goals as goal
 

@@ -1,8 +1,7 @@
 -- `report::text` meets its contract: byte by byte, the first i are written.
 -- Assumes nothing.
-use Rattle.std.proofs.Common.{◌-◌, length, arith, rules}
-use Rattle.report.proofs.Turns.{Copied, copied_next, copied_more, copied_all}
-use Rattle.report.proofs.Writing.{none}
+use Rattle.std.proofs.Common.{◌-◌, length}
+use Rattle.report.proofs.Turns.{Copied}
 use Rattle.report.proofs.text.Given as goal
 
 abbrev pub invariant-loop-i : goal.invariant-loop-i
