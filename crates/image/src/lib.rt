@@ -1,5 +1,6 @@
 // The program's work: a fresh start and a run of an image, as the lines that it prints.
 #![tactic(auto)]
+
 ghost use Rattle.std.specs.Prelude.{◌≡◌, ◌≤◌};
 ghost use Rattle.image.specs.Print.{settings_of, blank_of, printed, print_of};
 

@@ -1,5 +1,6 @@
 // The machine for C and Rust: numbers and slices only, and no call asks anything of its caller.
 #![tactic(auto)]
+
 ghost use Rattle.std.specs.Prelude.{◌≡◌, [], ◌∷◌, ◌++◌, ◌^◌, ◌<◌, length, take, set};
 ghost use Rattle.machine.specs.Calls.{answered, fresh_of, run_of};
 ghost use Rattle.nios2c.specs.Words.{core_of, core_words, state_of, words_of, settings_of, fits};

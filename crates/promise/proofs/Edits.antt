@@ -17,7 +17,6 @@ use Rattle.trace.specs.Maps.{bit, cleared}
 use Rattle.trace.specs.Machine.{Answer}
 use Rattle.trace.specs.Demand.{Edit, Survives}
 use Rattle.trace.proofs.Bits.{clear_bit}
-use Rattle.trace.proofs.Theorems as theory
 use Rattle.machine.specs.declared.Verdict.{Verdict}
 use Rattle.machine.specs.declared.Verdict.TheVariants.{Yes}
 use Rattle.machine.specs.Calls.{unless_refused, edit_refusal, unless_bad, asked, edit_of}

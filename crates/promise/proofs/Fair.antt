@@ -4,7 +4,7 @@ use mathlib.Core.Path.{◌≡◌, sym, ◌∙◌}
 use mathlib.Core.Logic.{◌⊎◌, inl, inr, ◌≢◌, by_cases}
 use mathlib.Core.Bool.{Bool, true, false, not, ◌||◌, cond}
 use mathlib.Core.List.{List}
-use Prim.Native.Nat.{ℕ, zero, suc, ◌+◌, ◌%◌, ◌≤◌}
+use Prim.Native.Nat.{ℕ, suc, ◌+◌, ◌%◌, ◌≤◌}
 use native.Mathlib.Decide.{ℕ_discrete}
 use native.Mathlib.Omega.{arith}
 use borrow.Author.Tests.{ltb-false, eqb-true, not-false}
@@ -27,7 +27,6 @@ use Rattle.machine.specs.Step.{above, interrupted, goes, set_control, bytes, wit
 use Rattle.isa.specs.Words.{kind_of, fields_of}
 use Rattle.promise.proofs.Reasons.{Named, exec_named}
 use Rattle.machine.specs.Calls.{bad_state, run_tests, run_refusal}
-use Rattle.trace.proofs.Theorems as theory
 use Rattle.machine.proofs.Accepted.{neither}
 use Rattle.promise.specs.Calls.{Sound}
 use Rattle.promise.proofs.Numbers.{in_order}

@@ -1,1 +1,3 @@
+#![tactic(auto)]
+
 // The three demands as theorems about the calls of `machine`: statements in specs/, proofs in proofs/, and no function.

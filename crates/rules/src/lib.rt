@@ -1,5 +1,6 @@
 // What a step may do to the state: where it goes on, exceptions, the ways back, control registers. No memory and no map in it.
 #![tactic(auto)]
+
 ghost use Rattle.std.specs.Prelude.{◌≡◌};
 ghost use Rattle.rules.specs.Rules.{above as above_of, ipending, interrupted as interrupted_of, next_pc, next as next_of, only as only_of, writes as writes_of};
 ghost use Rattle.rules.specs.Rules.{exception as exception_of, breaks as breaks_of, erets, brets, control as control_of, set_control};

@@ -2,7 +2,6 @@
 -- Assumes nothing.
 use mathlib.Core.Path.{◌∙◌}
 use Rattle.image.proofs.Printing.{prints_refusal, prints_run}
-use borrow.Author.Rules.{rules}
 use Rattle.image.proofs.lines.Goals as goal
 
 pub returns-then-number-ne0 : goal.returns-then-number-ne0

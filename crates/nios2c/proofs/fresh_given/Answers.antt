@@ -2,7 +2,6 @@
 -- Assumes nothing.
 use lib.ListN.{length}
 use Rattle.nios2c.proofs.Calls.{fresh_given_lem}
-use borrow.Author.Rules.{rules}
 use Rattle.nios2c.proofs.fresh_given.Goals as goal
 
 pub returns : goal.returns

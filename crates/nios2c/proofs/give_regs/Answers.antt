@@ -1,10 +1,9 @@
 -- `nios2c::give_regs` meets its contract: below i, the words are given.
 -- Assumes nothing.
 use mathlib.Core.Path.{◌∙◌}
-use Prim.Native.Nat.{◌-◌}
 use native.Mathlib.Omega.{arith}
 use lib.Seq.{take_all}
-use Rattle.nios2c.proofs.Copies.{Copied, copied_more, copied_all}
+use Rattle.nios2c.proofs.Copies.{copied_more, copied_all}
 use borrow.Author.Rules.{rules}
 use Rattle.nios2c.proofs.give_regs.Goals as goal
 

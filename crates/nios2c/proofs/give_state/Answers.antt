@@ -1,6 +1,5 @@
 -- `nios2c::give_state` meets its contract: the registers, and the rest.
 -- Assumes nothing.
-use borrow.Author.Rules.{rules}
 use Rattle.nios2c.proofs.give_state.Goals as goal
 
 pub returns : goal.returns

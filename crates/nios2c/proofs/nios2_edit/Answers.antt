@@ -1,7 +1,6 @@
 -- `nios2c::nios2_edit` meets its contract: the number of the machine's answer.
 -- Assumes nothing.
 use Rattle.nios2c.proofs.Calls.{edit_small}
-use borrow.Author.Rules.{rules}
 use Rattle.nios2c.proofs.nios2_edit.Goals as goal
 
 pub number-requires : goal.number-requires

@@ -3,7 +3,6 @@
 use mathlib.Core.Path.{◌∙◌}
 use lib.ListN.{length}
 use Rattle.nios2c.proofs.Calls.{lengths, fresh_fits, fresh_unfit}
-use borrow.Author.Rules.{rules}
 use Rattle.nios2c.proofs.nios2_fresh.Goals as goal
 
 pub fresh_given-requires : goal.fresh_given-requires

@@ -1,7 +1,6 @@
 -- `nios2c::nios2_run` meets its contract, by whether the lengths fit.
 -- Assumes nothing.
 use Rattle.nios2c.proofs.Calls.{lengths, run_untold, run_fits, run_unfit}
-use borrow.Author.Rules.{rules}
 use Rattle.nios2c.proofs.nios2_run.Goals as goal
 
 pub returns-then-answer-ne2 : goal.returns-then-answer-ne2

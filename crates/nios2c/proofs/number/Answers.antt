@@ -1,6 +1,5 @@
 -- `nios2c::number` meets its contract: a refusal's number is 256 higher.
 -- Assumes nothing.
-use borrow.Author.Rules.{rules}
 use Rattle.nios2c.proofs.number.Goals as goal
 
 pub overflow_add-result : goal.overflow_add-result

@@ -1,6 +1,5 @@
 -- `nios2c::run_given` meets its contract: words in, the machine's run, words out.
 -- Assumes nothing.
-use borrow.Author.Rules.{rules}
 use Rattle.nios2c.proofs.run_given.Goals as goal
 
 pub give_state-requires : goal.give_state-requires

@@ -2,9 +2,8 @@
 -- Assumes nothing.
 use lib.Seq.{take_all}
 use mathlib.Core.Path.{sym, ◌∙◌}
-use Prim.Native.Nat.{◌-◌}
 use borrow.Author.Rules.{rules}
-use Rattle.nios2c.proofs.Copies.{Copied, copied_more, copied_all}
+use Rattle.nios2c.proofs.Copies.{copied_more, copied_all}
 use Rattle.nios2c.proofs.take_regs.Goals as goal
 
 pub loop-i-preserved : goal.loop-i-preserved

@@ -1,10 +1,7 @@
 -- `nios2c::take_regs` meets its contract: below i, the words are taken.
 -- Assumes nothing.
-use lib.Seq.{take_all}
-use mathlib.Core.Path.{sym, ◌∙◌}
 use Prim.Native.Nat.{◌-◌}
-use borrow.Author.Rules.{rules}
-use Rattle.nios2c.proofs.Copies.{Copied, copied_more, copied_all}
+use Rattle.nios2c.proofs.Copies.{Copied}
 use Rattle.nios2c.proofs.take_regs.Given as goal
 
 abbrev pub invariant-loop-i : goal.invariant-loop-i

@@ -1,6 +1,5 @@
 -- `nios2c::take_state` meets its contract: the registers, and the rest.
 -- Assumes nothing.
-use borrow.Author.Rules.{rules}
 use Rattle.nios2c.proofs.take_state.Goals as goal
 
 pub returns : goal.returns
