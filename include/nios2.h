@@ -1,5 +1,5 @@
 /*
- * nios2: a proved Nios II emulator. The archive is libnios2c.a (rt staticlib nios2c).
+ * nios2: a proved Nios II emulator. The archive is libnios2c.a (rt lib in crates/nios2c).
  *
  * Each slice is a pointer to its first element and its number of elements. No two slices of one call may overlap, and no
  * pointer may be null, also where the length is 0. Otherwise a call asks nothing: whatever the numbers and lengths, it

@@ -5,7 +5,7 @@ const DIRECTORY: &str = "NIOS2_ARCHIVE_DIR";
 
 fn main() {
     let base = PathBuf::from(env::var_os("CARGO_MANIFEST_DIR").expect("set by cargo"));
-    let given = env::var_os(DIRECTORY).unwrap_or_else(|| "../target/staticlib".into());
+    let given = env::var_os(DIRECTORY).unwrap_or_else(|| "../crates/nios2c/out".into());
     let directory = base.join(given);
     println!("cargo:rerun-if-env-changed={DIRECTORY}");
     println!(
