@@ -243,6 +243,7 @@ fn opx_kind(n: usize) -> Kind
     OPX[n]
 }
 
+#[tactic(auto, using(crate::proofs::Choosing::by_opx, crate::proofs::Choosing::by_op))]
 pub fn decode(word: u32) -> Kind
     ensures { result ≡ kind_of word }
 {

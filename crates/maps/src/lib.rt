@@ -33,6 +33,7 @@ fn set_bit(map: &mut [u8], k: usize)
     map[i] = map[i] | power(k);
 }
 
+#[tactic(auto, using(crate::proofs::Spans::read_written, crate::proofs::Spans::read_new))]
 pub fn read1(first: &mut [u8], written: &mut [u8], k: usize)
     requires { Room first.old written.old (k + 1) }
     ensures { pair first.new written.new ≡ mark (each reads k 1) (pair first.old written.old) }

@@ -95,6 +95,7 @@ impl Core {
 
 impl Regs {
     // The registers with v in register i modulo 32; a write to r0 is dropped.
+    #[tactic(auto, using(crate::proofs::Writes::write_one, crate::proofs::Writes::write_none))]
     pub fn with(mut self, i: u32, v: u32) -> Self
         ensures { result ≡ write_regs self i v }
     {
