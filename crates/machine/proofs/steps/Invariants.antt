@@ -1,4 +1,4 @@
--- `machine::steps` meets its contract: the loop's invariant is `Running`.
+-- The invariant and the measure of the loop of `machine::steps`: the steps made so far are those of the definition, by `Running`.
 -- Assumes nothing.
 use Prim.Native.Nat.{◌-◌}
 use Rattle.machine.proofs.Running.{Running, state}

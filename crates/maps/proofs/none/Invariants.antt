@@ -1,4 +1,4 @@
--- `maps::none` meets its contract: the bits below k are seen.
+-- The invariant and the measure of the loop of `maps::none`: the bits below k are seen.
 -- Assumes nothing.
 use Prim.Native.Nat.{◌-◌}
 use Rattle.maps.proofs.Ranges.{Seen}

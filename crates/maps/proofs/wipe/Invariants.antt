@@ -1,4 +1,4 @@
--- `maps::wipe` meets its contract: the bytes below i are wiped.
+-- The invariant and the measure of the loop of `maps::wipe`: the bytes below i are wiped.
 -- Assumes nothing.
 use Prim.Native.Nat.{◌-◌}
 use lib.ListN.{length}

@@ -1,4 +1,4 @@
--- `nios2c::give_regs` meets its contract: below i, the words are given.
+-- The invariant and the measure of the loop of `nios2c::give_regs`: below i, the words are given.
 -- Assumes nothing.
 use Prim.Native.Nat.{◌-◌}
 use Rattle.nios2c.proofs.Copies.{Copied}

@@ -1,4 +1,4 @@
--- `nios2c::take_regs` meets its contract: below i, the words are taken.
+-- The invariant and the measure of the loop of `nios2c::take_regs`: below i, the words are taken.
 -- Assumes nothing.
 use Prim.Native.Nat.{◌-◌}
 use Rattle.nios2c.proofs.Copies.{Copied}

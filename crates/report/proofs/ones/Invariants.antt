@@ -1,4 +1,4 @@
--- `report::ones` meets its contract: the bytes passed are counted.
+-- The invariant and the measure of the loop of `report::ones`: the bytes passed are counted.
 -- Assumes nothing.
 use Rattle.std.proofs.Common.{◌-◌, length}
 use Rattle.report.proofs.Turns.{Counted}

@@ -1,4 +1,4 @@
--- `report::register_lines` meets its contract: below i, the lines are written.
+-- The invariant and the measure of the loop of `report::register_lines`: below i, the lines are written.
 -- Assumes nothing.
 use Rattle.std.proofs.Common.{◌-◌}
 use Rattle.report.proofs.Turns.{Listed}

@@ -1,4 +1,4 @@
--- `report::text` meets its contract: byte by byte, the first i are written.
+-- The invariant and the measure of the loop of `report::text`: byte by byte, the first i are written.
 -- Assumes nothing.
 use Rattle.std.proofs.Common.{◌-◌, length}
 use Rattle.report.proofs.Turns.{Copied}

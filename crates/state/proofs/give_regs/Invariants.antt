@@ -1,4 +1,4 @@
--- `state::give_regs` meets its contract: below i, the words are given.
+-- The invariant and the measure of the loop of `state::give_regs`: below i, the words are given.
 -- Assumes nothing.
 use Prim.Native.Nat.{◌-◌}
 use Rattle.state.specs.Words.{state_length}

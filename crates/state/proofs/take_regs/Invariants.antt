@@ -1,4 +1,4 @@
--- `state::take_regs` meets its contract: below i, the words are taken.
+-- The invariant and the measure of the loop of `state::take_regs`: below i, the words are taken.
 -- Assumes nothing.
 use Prim.Native.Nat.{◌-◌}
 use Rattle.state.proofs.Copies.{Copied}
