@@ -13,6 +13,7 @@ use Rattle.isa.specs.declared.Kind.TheVariants.{Roli, Rol, Flushp, Ret, Nor, Mul
 use Rattle.isa.specs.declared.Kind.TheVariants.{Sll, Or, Mulxsu, Cmpne, Srli, Srl, Nextpc, Callr, Xor, Mulxss, Cmpeq, Divu, Div, Rdctl}
 use Rattle.isa.specs.declared.Kind.TheVariants.{Mul, Cmpgeu, Initi, Trap, Wrctl, Cmpltu, Add, Break, Sync, Sub, Srai, Sra, Outside}
 use Rattle.isa.specs.declared.Fields.{Fields}
+use Rattle.state.specs.declared.Reason.TheVariants as reason
 use Rattle.exec.specs.declared.Width.{Width}
 use Rattle.exec.specs.declared.Width.TheVariants.{Byte, Half, Word}
 use Rattle.exec.specs.declared.Effect.{Effect}
@@ -45,18 +46,18 @@ present_of there dest value = cond there (Put dest value) Raise
 -- reason 14 for a quotient that there is not
 abbrev pub quotient_of : ℕ → Quotient → Effect
 quotient_of dest (Value v) = Put dest v
-quotient_of dest ByZero = Stop 14
-quotient_of dest TooLarge = Stop 14
+quotient_of dest ByZero = Stop reason.Quotient
+quotient_of dest TooLarge = Stop reason.Quotient
 
 abbrev pub divide_of : Bool → ℕ → Quotient → Effect
 divide_of there dest q = cond there (quotient_of dest q) Raise
 
 -- control registers 6 to 31 give reason 12
 abbrev pub read_of : Fields → Effect
-read_of f = cond (ltb f.imm5 6) (Read f.c f.imm5) (Stop 12)
+read_of f = cond (ltb f.imm5 6) (Read f.c f.imm5) (Stop reason.Outside)
 
 abbrev pub write_of : Fields → ℕ → Effect
-write_of f a = cond (ltb f.imm5 6) (Write f.imm5 a) (Stop 12)
+write_of f a = cond (ltb f.imm5 6) (Write f.imm5 a) (Stop reason.Outside)
 
 -- mul and div: multiplier and divider present
 abbrev pub exec_of : Kind → Fields → ℕ → ℕ → ℕ → Bool → Bool → Effect
@@ -87,7 +88,7 @@ exec_of Cmpgeui f a b pc mul div = Put f.b (flag_of (not (less_of a f.imm16)))
 exec_of Andhi f a b pc mul div = Put f.b (and_of a (high_of f.imm16))
 exec_of Bgeu f a b pc mul div = branch_of f pc (not (less_of a b))
 exec_of Cmpltui f a b pc mul div = Put f.b (flag_of (less_of a f.imm16))
-exec_of Custom f a b pc mul div = Stop 13
+exec_of Custom f a b pc mul div = Stop reason.Custom
 exec_of Initd f a b pc mul div = Next
 exec_of Orhi f a b pc mul div = Put f.b (or_of a (high_of f.imm16))
 exec_of Bltu f a b pc mul div = branch_of f pc (less_of a b)
@@ -142,4 +143,4 @@ exec_of Sync f a b pc mul div = Next
 exec_of Sub f a b pc mul div = Put f.c (sub_of a b)
 exec_of Srai f a b pc mul div = Put f.c (sra_of a f.imm5)
 exec_of Sra f a b pc mul div = Put f.c (sra_of a b)
-exec_of Outside f a b pc mul div = Stop 12
+exec_of Outside f a b pc mul div = Stop reason.Outside

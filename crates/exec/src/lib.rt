@@ -5,6 +5,7 @@ ghost use Rattle.std.specs.Prelude.{◌≡◌};
 ghost use Rattle.exec.specs.Exec.{signed_of, call_of, branch_of, present_of, quotient_of, divide_of, load_of, store_of, read_of, write_of, exec_of};
 
 use isa::{Fields, Kind};
+use state::Reason;
 use word::Quotient;
 
 // How much a load or a store moves.
@@ -19,7 +20,7 @@ pub enum Width {
 #[derive(Clone, Copy)]
 pub enum Effect {
     // a stop, with its reason
-    Stop(u32),
+    Stop(Reason),
     // pc + 4 and nothing else
     Next,
     // a register takes a value; pc + 4
@@ -110,8 +111,8 @@ fn quotient(dest: u32, q: Quotient) -> Effect
 {
     match q {
         Quotient::Value(v) => Effect::Put(dest, v),
-        Quotient::ByZero => Effect::Stop(14),
-        Quotient::TooLarge => Effect::Stop(14),
+        Quotient::ByZero => Effect::Stop(Reason::Quotient),
+        Quotient::TooLarge => Effect::Stop(Reason::Quotient),
     }
 }
 
@@ -130,7 +131,7 @@ fn read_control(f: Fields) -> Effect
     if f.imm5 < 6 {
         return Effect::Read(f.c, f.imm5);
     }
-    Effect::Stop(12)
+    Effect::Stop(Reason::Outside)
 }
 
 fn write_control(f: Fields, a: u32) -> Effect
@@ -139,7 +140,7 @@ fn write_control(f: Fields, a: u32) -> Effect
     if f.imm5 < 6 {
         return Effect::Write(f.imm5, a);
     }
-    Effect::Stop(12)
+    Effect::Stop(Reason::Outside)
 }
 
 // a and b are the registers A and B; mul and div say whether multiplier and divider are present.
@@ -174,7 +175,7 @@ pub fn exec(k: Kind, f: Fields, a: u32, b: u32, pc: u32, mul: bool, div: bool) -
         Kind::Andhi => Effect::Put(f.b, word::and(a, word::high(f.imm16))),
         Kind::Bgeu => branch(f, pc, !word::less(a, b)),
         Kind::Cmpltui => Effect::Put(f.b, word::flag(word::less(a, f.imm16))),
-        Kind::Custom => Effect::Stop(13),
+        Kind::Custom => Effect::Stop(Reason::Custom),
         Kind::Initd => Effect::Next,
         Kind::Orhi => Effect::Put(f.b, word::or(a, word::high(f.imm16))),
         Kind::Bltu => branch(f, pc, word::less(a, b)),
@@ -229,6 +230,6 @@ pub fn exec(k: Kind, f: Fields, a: u32, b: u32, pc: u32, mul: bool, div: bool) -
         Kind::Sub => Effect::Put(f.c, word::sub(a, b)),
         Kind::Srai => Effect::Put(f.c, word::sra(a, f.imm5)),
         Kind::Sra => Effect::Put(f.c, word::sra(a, b)),
-        Kind::Outside => Effect::Stop(12),
+        Kind::Outside => Effect::Stop(Reason::Outside),
     }
 }

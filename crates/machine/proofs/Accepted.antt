@@ -14,11 +14,11 @@ use Rattle.state.specs.declared.State.{State}
 use Rattle.state.specs.declared.Settings.{Settings}
 use Rattle.trace.specs.Maps.{Maps}
 use Rattle.trace.specs.Machine.{Answer, answer}
-use Rattle.machine.specs.declared.Verdict.{Verdict}
-use Rattle.machine.specs.declared.Verdict.TheVariants.{Refused}
-use Rattle.machine.specs.Calls.{bad_memory, bad_map, bad_settings, bad_budget, bad_range}
-use Rattle.machine.specs.Calls.{fresh_refusal, run_refusal, edit_refusal, Lent, unless_refused, run_of, answered}
-use Rattle.machine.specs.Calls.{unless_started, started, fresh_state, fresh_of, unless_bad, asked, edit_of}
+use Rattle.machine.specs.declared.Refusal.{Refusal}
+use Rattle.machine.specs.declared.Refusal.TheVariants.{BadMemory, BadMap, BadSettings, BadState, BadBudget, BadRange}
+use Rattle.machine.specs.Calls.{bad_memory, bad_map, bad_settings, bad_state, bad_budget, bad_range}
+use Rattle.machine.specs.Calls.{refusal_number, fresh_refusal, run_refusal, edit_refusal, Lent, unless_refused, run_of}
+use Rattle.machine.specs.Calls.{Started, unless_started, fresh_state, fresh_of, Verdict, Refused, unless_bad, asked, edit_of}
 use Rattle.machine.specs.Step.{machine}
 
 pub neither : (a b : Bool) → (a || b) ≡ false → (a ≡ false) × (b ≡ false)
@@ -65,6 +65,42 @@ ranged len read start end e =
     let a = mapped len read y.0 in
     (ltb-false end start r.0, omega (arith, f.whole, a, ltb-false len end r.1))
 
+-- a refusal has a number other than 0
+pub some : (f : Refusal) → refusal_number f ≢ 0
+some BadMemory e = omega arith
+some BadMap e = omega arith
+some BadSettings e = omega arith
+some BadState e = omega arith
+some BadBudget e = omega arith
+some BadRange e = omega arith
+
+-- ---- the tests of a run are those of a fresh start, and then two more
+
+abbrev three : Bool → Bool → Bool → ℕ → ℕ
+three a b c x = cond a 1 (cond b 2 (cond c 3 x))
+
+firsts : (a b c : Bool) (x : ℕ) → three a b c 0 ≢ 0 → three a b c 0 ≡ three a b c x
+firsts true b c x f = refl
+firsts false true c x f = refl
+firsts false false true x f = refl
+firsts false false false x f = absurd (f refl)
+
+rests : (a b c : Bool) (x : ℕ) → three a b c 0 ≡ 0 → x ≡ three a b c x
+rests true b c x e = absurd (omega (arith, e))
+rests false true c x e = absurd (omega (arith, e))
+rests false false true x e = absurd (omega (arith, e))
+rests false false false x e = refl
+
+module _ (len read written : ℕ) (S : Settings) (s : State) (budget : ℕ) where
+  pub run_first : fresh_refusal len read written S ≢ 0 → fresh_refusal len read written S ≡ run_refusal len read written S s budget
+  unfolding fresh_refusal run_refusal
+  run_first f = firsts (bad_memory len) (bad_map len read || bad_map len written) (bad_settings len S) _ f
+
+  pub run_rest : fresh_refusal len read written S ≡ 0 → (b d : Bool) → b ≡ bad_state s → d ≡ bad_budget budget
+      → cond b 4 (cond d 5 0) ≡ run_refusal len read written S s budget
+  unfolding fresh_refusal run_refusal
+  run_rest e b d p q = rw (p, q) (rests (bad_memory len) (bad_map len read || bad_map len written) (bad_settings len S) _ e)
+
 -- ---- a run
 
 refused : (n : ℕ) (s : State) (m : List ℕ) (p : Maps) (x : Answer ℕ State) → n ≢ 0
@@ -74,7 +110,7 @@ refused (suc n) s m p x f = refl
 
 module _ (m read written : List ℕ) (s : State) (S : Settings) (lines budget n : ℕ)
     (e : n ≡ run_refusal (length m) (length read) (length written) S s budget) where
-  pub run_refused : n ≢ 0 → answered (record { number = n; steps = 0; state = s }) m read written ≡ run_of m read written s S lines budget
+  pub run_refused : n ≢ 0 → record { reason = n; steps = 0; config = s; memory = m; maps = pair read written } ≡ run_of m read written s S lines budget
   unfolding run_of
   run_refused f = rw (← e) (refused n s m (pair read written) _ f)
 
@@ -85,17 +121,17 @@ module _ (m read written : List ℕ) (s : State) (S : Settings) (lines budget n 
 -- ---- a fresh start
 
 not_started : (n : ℕ) (read written : List ℕ) (s : State) (S : Settings) → n ≢ 0
-    → started (record { number = n; state = s }) read written ≡ unless_started n read written s S
+    → record { number = n; state = s; maps = pair read written } ≡ unless_started n read written s S
 not_started zero read written s S f = absurd (f refl)
 not_started (suc n) read written s S f = refl
 
 module _ (len : ℕ) (read written : List ℕ) (s : State) (S : Settings) (n : ℕ) (e : n ≡ fresh_refusal len (length read) (length written) S) where
-  pub fresh_refused : n ≢ 0 → started (record { number = n; state = s }) read written ≡ fresh_of len read written s S
+  pub fresh_refused : n ≢ 0 → record { number = n; state = s; maps = pair read written } ≡ fresh_of len read written s S
   unfolding fresh_of
   fresh_refused f = rw (← e) (not_started n read written s S f)
 
   pub fresh_accepted : n ≡ 0 → (read' written' : List ℕ) → read' ≡ replicate (length read) 0 → written' ≡ replicate (length written) 0
-      → started (record { number = 0; state = fresh_state S }) read' written' ≡ fresh_of len read written s S
+      → record { number = 0; state = fresh_state S; maps = pair read' written' } ≡ fresh_of len read written s S
   unfolding fresh_of
   fresh_accepted z read' written' a b = let q = sym e ∙ z in rw (q, a, b)
 
@@ -135,10 +171,10 @@ module _ (len read written : ℕ) (S : Settings) (e : fresh_refusal len read wri
       let z = passed 2 (bad_settings len S) _ y.1 in
       rw (x.0, y.0, z.0, b)
 
-pub start_number : (len : ℕ) (read written : List ℕ) (s : State) (S : Settings) → (fresh_of len read written s S).result.number ≡ fresh_refusal len (length read) (length written) S
+pub start_number : (len : ℕ) (read written : List ℕ) (s : State) (S : Settings) → (fresh_of len read written s S).number ≡ fresh_refusal len (length read) (length written) S
 unfolding fresh_of
 start_number len read written s S = number (fresh_refusal len (length read) (length written) S)
   where
-    number : (n : ℕ) → (unless_started n read written s S).result.number ≡ n
+    number : (n : ℕ) → (unless_started n read written s S).number ≡ n
     number zero = refl
     number (suc n) = refl

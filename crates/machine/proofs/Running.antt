@@ -1,30 +1,21 @@
 -- The invariant of the run's loop, over the theory's own, with a lemma for its start, its turn, its stop and its end.
 -- Assumes nothing.
-use mathlib.Core.Path.{◌≡◌, refl, sym, ap, ◌∙◌, subst}
-use mathlib.Core.List.{List}
-use Prim.Native.Nat.{ℕ, ◌+◌, ◌≤◌, ◌<◌}
-use native.Mathlib.Omega.{arith}
-use lib.ListN.{length}
+use Rattle.std.proofs.Common.{◌≡◌, refl, sym, ap, ◌∙◌, subst, List, ℕ, ◌+◌, ◌≤◌, ◌<◌, length, arith, Result, Ok, Err}
 use Rattle.trace.specs.Maps.{Maps, mark}
 use Rattle.trace.specs.Machine.{Attempt, Outcome, stopped, stepped, perform, touched, Answer, answer}
 use Rattle.trace.specs.Via.{via, via_outcome}
 use Rattle.trace.proofs.Via.{perform_via, touched_via}
 use Rattle.trace.proofs.Loop.{Going, going_start, going_turn, going_stop, going_end}
 use Rattle.maps.specs.Pair.{pair}
-use Rattle.state.specs.declared.Regs.{Regs}
-use Rattle.state.specs.declared.Core.{Core}
 use Rattle.state.specs.declared.State.{State}
 use Rattle.state.specs.declared.Settings.{Settings}
 use Rattle.state.specs.declared.Change.{Change}
-use Rattle.state.specs.State.{write, changed}
-use Rattle.machine.specs.declared.Turn.{Turn}
-use Rattle.machine.specs.declared.Turn.TheVariants.{Stop, Make}
+use Rattle.state.specs.declared.Reason.{Reason}
+use Rattle.state.specs.declared.Reason.TheVariants.{Spent}
+use Rattle.state.specs.State.{reason_number, changed}
 use Rattle.machine.specs.Step.{attempt, machine}
-use Rattle.machine.specs.Ends.{turn_of, memory_of, End, ended, attempt_end}
-use Rattle.machine.specs.Calls.{Lent, answered}
-
-abbrev pub state : Regs → Core → State
-state regs core = record { regs = regs; core = core }
+use Rattle.machine.specs.Ends.{numbered, turn_of, memory_of, End, ended, attempt_end}
+use Rattle.machine.specs.Calls.{Lent, ran}
 
 -- from m₀, read₀, written₀ and s₀, i steps of the budget are made
 pub record Running (S : Settings) (lines budget : ℕ) (m₀ read₀ written₀ : List ℕ) (s₀ : State) (m read written : List ℕ) (s : State) (i : ℕ) : Type 0 where
@@ -35,11 +26,11 @@ pub record Running (S : Settings) (lines budget : ℕ) (m₀ read₀ written₀ 
   pub going : Going (machine S lines (length m₀)) budget (answer (machine S lines (length m₀)) budget s₀ m₀ (pair read₀ written₀)) i s m (pair read written)
 
 -- what an end says of its attempt's outcome
-stop_is : (o : Outcome ℕ Change) (n : ℕ) → Stop n ≡ turn_of o → o ≡ stopped n
+stop_is : (o : Outcome ℕ Change) (n : ℕ) → Err n ≡ turn_of o → o ≡ stopped n
 stop_is (stopped k) n e = cc
 stop_is (stepped c m) n e = cc
 
-make_is : (o : Outcome ℕ Change) (h : Change) (m n : List ℕ) → Make h ≡ turn_of o → n ≡ memory_of m o → o ≡ stepped h n
+make_is : (o : Outcome ℕ Change) (h : Change) (m n : List ℕ) → Ok h ≡ turn_of o → n ≡ memory_of m o → o ≡ stepped h n
 make_is (stopped k) h m n e f = cc
 make_is (stepped c k) h m n e f = cc
 
@@ -57,10 +48,12 @@ module _ (S : Settings) (lines budget : ℕ) (m₀ read₀ written₀ : List ℕ
   Whole x = x ≡ answer (machine S lines (length m₀)) budget s₀ m₀ (pair read₀ written₀)
 
   module _ {m read written : List ℕ} {s : State} {i : ℕ} (g : Running S lines budget m₀ read₀ written₀ s₀ m read written s i) where
-    pub spent : budget ≤ i → Whole (answered (record { number = 0; steps = i; state = s }) m read written)
-    spent h = sym (going_end (machine S lines (length m₀)) budget g.going h)
+    pub spent : budget ≤ i → Whole (ran (record { reason = Spent; steps = budget }) s m read written)
+    spent h =
+        let e : budget ≡ i = omega (arith, g.going.within) in
+        (λ j. record { reason = 0; steps = e j; config = s; memory = m; maps = pair read written }) ∙ sym (going_end (machine S lines (length m₀)) budget g.going h)
 
-    module _ (t : Turn) (m' read' written' : List ℕ) (h : i < budget)
+    module _ (t : Result Change Reason) (m' read' written' : List ℕ) (h : i < budget)
         (e : ended t m' read' written' ≡ attempt_end (attempt S lines (length m) s.regs.r s.core) m (pair read written)) where
       -- the attempt, by the length that the run began with
       A : Attempt ℕ Change
@@ -70,7 +63,7 @@ module _ (S : Settings) (lines budget : ℕ) (m₀ read₀ written₀ : List ℕ
       unfolding A
       end = e ∙ ap (λ (n : ℕ). attempt_end (attempt S lines n s.regs.r s.core) m (pair read written)) g.of_memory
 
-      turn_is : t ≡ turn_of (perform A m)
+      turn_is : numbered t ≡ turn_of (perform A m)
       unfolding attempt_end
       turn_is = ap (λ (x : End). x.turn) end
 
@@ -82,19 +75,19 @@ module _ (S : Settings) (lines budget : ℕ) (m₀ read₀ written₀ : List ℕ
       unfolding attempt_end
       maps_is = ap (λ (x : End). x.maps) end ∙ ap (λ l. mark l (pair read written)) (sym (touched_via (changed s) m A))
 
-      pub stops : (n : ℕ) → t ≡ Stop n → Whole (answered (record { number = n; steps = i; state = s }) m' read' written')
+      pub stops : (r : Reason) → t ≡ Err r → Whole (ran (record { reason = r; steps = i }) s m' read' written')
       unfolding A
-      stops n q =
-          let o : perform A m ≡ stopped n = stop_is (perform A m) n (sym q ∙ turn_is) in
+      stops r q =
+          let o : perform A m ≡ stopped (reason_number r) = stop_is (perform A m) (reason_number r) (sym (ap numbered q) ∙ turn_is) in
           let k : m' ≡ m = memory_is ∙ ap (memory_of m) o in
-          (λ j. record { reason = n; steps = i; config = s; memory = k j; maps = maps_is j })
-          ∙ sym (going_stop (machine S lines (length m₀)) budget g.going h n (perform_via (changed s) m A ∙ ap (via_outcome (changed s)) o))
+          (λ j. record { reason = reason_number r; steps = i; config = s; memory = k j; maps = maps_is j })
+          ∙ sym (going_stop (machine S lines (length m₀)) budget g.going h (reason_number r) (perform_via (changed s) m A ∙ ap (via_outcome (changed s)) o))
 
-      made : (x : Change) → t ≡ Make x → length m' ≡ length m → length read' ≡ length read → length written' ≡ length written
+      made : (x : Change) → t ≡ Ok x → length m' ≡ length m → length read' ≡ length read → length written' ≡ length written
           → Running S lines budget m₀ read₀ written₀ s₀ m' read' written' (changed s x) (i + 1)
       unfolding A
       made x q a b d =
-          let o : perform A m ≡ stepped x m' = make_is (perform A m) x m m' (sym q ∙ turn_is) memory_is in
+          let o : perform A m ≡ stepped x m' = make_is (perform A m) x m m' (sym (ap numbered q) ∙ turn_is) memory_is in
           record {
             lent = record { size = omega (arith, g.lent.size); of_read = omega (arith, g.lent.of_read); of_written = omega (arith, g.lent.of_written) };
             of_memory = a ∙ g.of_memory;
@@ -104,8 +97,8 @@ module _ (S : Settings) (lines budget : ℕ) (m₀ read₀ written₀ : List ℕ
                 (going_turn (machine S lines (length m₀)) budget g.going h (changed s x) m' (perform_via (changed s) m A ∙ ap (via_outcome (changed s)) o));
           }
 
-      -- the registers as they are stored back
-      pub turns : (x : Change) (r' : List ℕ) → t ≡ Make x → r' ≡ write s.regs.r x.dest x.value
+      -- the state as it is stored back
+      pub turns : (x : Change) (s' : State) → t ≡ Ok x → s' ≡ changed s x
           → length m' ≡ length m → length read' ≡ length read → length written' ≡ length written
-          → Running S lines budget m₀ read₀ written₀ s₀ m' read' written' (state (record { r = r' }) x.core) (i + 1)
-      turns x r' q f a b d = rw (f) (made x q a b d)
+          → Running S lines budget m₀ read₀ written₀ s₀ m' read' written' s' (i + 1)
+      turns x s' q f a b d = rw (f) (made x q a b d)

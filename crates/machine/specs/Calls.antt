@@ -1,16 +1,17 @@
 -- The three calls: what is not accepted, in order, and what an accepted call gives.
 -- Assumes nothing.
-use Rattle.std.specs.Prelude.{◌≡◌, Bool, true, false, not, ◌||◌, cond, List, [], ◌∷◌, ℕ, zero, suc, ◌+◌, ◌-◌, ◌*◌, ◌/◌, ◌%◌, ◌^◌, ◌≤◌, eqb, ltb, length, get_or, replicate}
+use Rattle.std.specs.Prelude.{◌≡◌, Bool, true, false, not, ◌||◌, cond, List, [], ◌∷◌, ℕ, zero, suc, ◌+◌, ◌-◌, ◌*◌, ◌/◌, ◌%◌, ◌^◌, ◌≤◌, eqb, ltb, length, get_or, replicate, Result, Ok, Err}
 use Rattle.maps.specs.Pair.{pair, none_set}
 use Rattle.state.specs.declared.State.{State}
 use Rattle.state.specs.declared.Settings.{Settings}
 use Rattle.trace.specs.Maps.{Maps}
 use Rattle.trace.specs.Machine.{Answer, answer}
-use Rattle.machine.specs.declared.Verdict.{Verdict}
-use Rattle.machine.specs.declared.Verdict.TheVariants.{Refused, Yes, No}
-use Rattle.machine.specs.declared.Start.{Start}
-use Rattle.machine.specs.declared.Answered.{Answered}
-use Rattle.machine.specs.Step.{above, machine}
+use Rattle.state.specs.State.{reason_number, fresh_state as fresh_at}
+use Rattle.rules.specs.Rules.{above}
+use Rattle.machine.specs.declared.Refusal.{Refusal}
+use Rattle.machine.specs.declared.Refusal.TheVariants.{BadMemory, BadMap, BadSettings, BadState, BadBudget, BadRange}
+use Rattle.machine.specs.declared.Ran.{Ran}
+use Rattle.machine.specs.Step.{machine}
 
 -- ---- what is not accepted
 
@@ -69,6 +70,19 @@ run_refusal len read written S s budget = first (run_tests len read written S s 
 unfoldable pub edit_refusal : ℕ → ℕ → ℕ → ℕ → ℕ
 edit_refusal len read start end = first (edit_tests len read start end)
 
+-- the number of a refusal as the code names it, and of what the code's tests hand back: 0 where none refuses
+abbrev pub refusal_number : Refusal → ℕ
+refusal_number BadMemory = 1
+refusal_number BadMap = 2
+refusal_number BadSettings = 3
+refusal_number BadState = 4
+refusal_number BadBudget = 5
+refusal_number BadRange = 6
+
+abbrev pub refused : Result (Unit {0}) Refusal → ℕ
+refused (Ok x) = 0
+refused (Err r) = refusal_number r
+
 -- ---- a run
 
 -- what the lent slices of an accepted call have in common
@@ -87,34 +101,45 @@ run_of m read written s S lines budget =
     unless_refused (run_refusal (length m) (length read) (length written) S s budget) s m (pair read written)
     (answer (machine S lines (length m)) budget s m (pair read written))
 
--- what the code hands back, as an answer
-abbrev pub answered : Answered → List ℕ → List ℕ → List ℕ → Answer ℕ State
-answered r m read written = record { reason = r.number; steps = r.steps; config = r.state; memory = m; maps = pair read written }
+-- what the code hands back and leaves, as an answer: of the steps, and of a call
+abbrev pub ran : Ran → State → List ℕ → List ℕ → List ℕ → Answer ℕ State
+ran r s m read written = record { reason = reason_number r.reason; steps = r.steps; config = s; memory = m; maps = pair read written }
+
+abbrev pub answered : Result Ran Refusal → State → List ℕ → List ℕ → List ℕ → Answer ℕ State
+answered (Ok r) s m read written = ran r s m read written
+answered (Err f) s m read written = record { reason = refusal_number f; steps = 0; config = s; memory = m; maps = pair read written }
 
 -- ---- a fresh start
 
 -- zero in all registers, pc = reset address
 abbrev pub fresh_state : Settings → State
-fresh_state S =
-    record { regs = record { r = replicate 32 0 }; core = record { pc = S.reset; status = 0; estatus = 0; bstatus = 0; ienable = 0 } }
+fresh_state S = fresh_at S.reset
 
+-- a refusal's number or 0, the state and the maps
 pub record Started : Type 0 where
-  pub result : Start
+  pub number : ℕ
+  pub state : State
   pub maps : Maps
 
-abbrev pub started : Start → List ℕ → List ℕ → Started
-started r read written = record { result = r; maps = pair read written }
+-- what the code hands back and leaves
+abbrev pub started : Result (Unit {0}) Refusal → State → List ℕ → List ℕ → Started
+started r s read written = record { number = refused r; state = s; maps = pair read written }
 
 -- it clears both maps; with a number the old state is handed back and nothing is changed
 abbrev pub unless_started : ℕ → List ℕ → List ℕ → State → Settings → Started
 unless_started zero read written s S =
-    started (record { number = 0; state = fresh_state S }) (replicate (length read) 0) (replicate (length written) 0)
-unless_started (suc n) read written s S = started (record { number = suc n; state = s }) read written
+    record { number = 0; state = fresh_state S; maps = pair (replicate (length read) 0) (replicate (length written) 0) }
+unless_started (suc n) read written s S = record { number = suc n; state = s; maps = pair read written }
 
 unfoldable pub fresh_of : ℕ → List ℕ → List ℕ → State → Settings → Started
 fresh_of len read written s S = unless_started (fresh_refusal len (length read) (length written) S) read written s S
 
 -- ---- the edit question
+
+pub data Verdict : Type 0 where
+  Refused : ℕ → Verdict
+  Yes : Verdict
+  No : Verdict
 
 -- yes exactly when no bit in the range is set
 abbrev pub asked : Bool → Verdict
@@ -127,3 +152,8 @@ unless_bad (suc n) x = Refused (suc n)
 
 unfoldable pub edit_of : ℕ → List ℕ → ℕ → ℕ → Verdict
 edit_of len map start end = unless_bad (edit_refusal len (length map) start end) (asked (none_set map start (end - start)))
+
+-- what the code hands back
+abbrev pub told : Result Bool Refusal → Verdict
+told (Ok b) = asked b
+told (Err r) = Refused (refusal_number r)

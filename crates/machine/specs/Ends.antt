@@ -1,35 +1,37 @@
--- How a step in code tells its outcome: a turn, and what it leaves in the lent slices.
+-- How a step in code tells its outcome: a change or a reason, and what it leaves in the lent slices.
 -- Assumes nothing.
-use Rattle.std.specs.Prelude.{Bool, not, ◌&&◌, cond, List, ℕ, ◌+◌, ◌%◌, eqb, leb}
+use Rattle.std.specs.Prelude.{cond, List, ℕ, ◌+◌, ◌%◌, eqb, leb, Result, Ok, Err}
 use Rattle.maps.specs.Pair.{pair}
 use Rattle.state.specs.declared.Change.{Change}
+use Rattle.state.specs.declared.Reason.{Reason}
+use Rattle.state.specs.State.{reason_number}
 use Rattle.trace.specs.Maps.{Maps, mark}
 use Rattle.trace.specs.Machine.{After, Attempt, Outcome, stopped, stepped, finish, perform, data_of, touched}
-use Rattle.machine.specs.declared.Turn.{Turn}
-use Rattle.machine.specs.declared.Turn.TheVariants.{Stop, Make}
 
--- the n bytes at a are not a multiple of n, or pass the end; and which of two numbers that is
-abbrev pub barred_of : ℕ → ℕ → ℕ → Bool
-barred_of len a n = not (eqb (a % n) 0 && leb (a + n) len)
+-- the n bytes at a: the first reason where a is no multiple of n, then the second where they pass the end
+abbrev pub within_of : ℕ → ℕ → ℕ → Reason → Reason → Result (Unit {0}) Reason
+within_of len a n crooked past = cond (eqb (a % n) 0) (cond (leb (a + n) len) (Ok tt) (Err past)) (Err crooked)
 
-abbrev pub fault_of : ℕ → ℕ → ℕ → ℕ → ℕ
-fault_of crooked past a n = cond (eqb (a % n) 0) past crooked
+-- a change, or the paper's number of a reason
+abbrev pub numbered : Result Change Reason → Result Change ℕ
+numbered (Ok c) = Ok c
+numbered (Err r) = Err (reason_number r)
 
-abbrev pub turn_of : Outcome ℕ Change → Turn
-turn_of (stopped n) = Stop n
-turn_of (stepped c m) = Make c
+abbrev pub turn_of : Outcome ℕ Change → Result Change ℕ
+turn_of (stopped n) = Err n
+turn_of (stepped c m) = Ok c
 
 abbrev pub memory_of : List ℕ → Outcome ℕ Change → List ℕ
 memory_of m (stopped n) = m
 memory_of m (stepped c n) = n
 
 pub record End : Type 0 where
-  pub turn : Turn
+  pub turn : Result Change ℕ
   pub memory : List ℕ
   pub maps : Maps
 
-abbrev pub ended : Turn → List ℕ → List ℕ → List ℕ → End
-ended t m first written = record { turn = t; memory = m; maps = pair first written }
+abbrev pub ended : Result Change Reason → List ℕ → List ℕ → List ℕ → End
+ended t m first written = record { turn = numbered t; memory = m; maps = pair first written }
 
 -- what follows the fetch, and a whole attempt
 unfoldable pub after_end : After ℕ Change → List ℕ → Maps → End

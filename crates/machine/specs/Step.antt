@@ -1,8 +1,7 @@
 -- One step, rule by rule in the order of document 01. It names no memory and no map.
 -- Assumes nothing.
-use Rattle.std.specs.Prelude.{Bool, not, ◌&&◌, ◌||◌, cond, List, ℕ, ◌+◌, ◌%◌, eqb, ltb, leb}
-use Rattle.std.specs.Int.Bits.{bit_and}
-use Rattle.word.specs.Word.{add_of, extend_of}
+use Rattle.std.specs.Prelude.{Bool, cond, List, ℕ, ◌+◌, ◌%◌, eqb, leb}
+use Rattle.word.specs.Word.{extend_of}
 use Rattle.isa.specs.Words.{fields_of, kind_of}
 use Rattle.exec.specs.Exec.{exec_of}
 use Rattle.exec.specs.declared.Width.{Width}
@@ -13,72 +12,10 @@ use Rattle.state.specs.declared.Core.{Core}
 use Rattle.state.specs.declared.State.{State}
 use Rattle.state.specs.declared.Settings.{Settings}
 use Rattle.state.specs.declared.Change.{Change}
-use Rattle.state.specs.State.{read_reg, changed}
+use Rattle.state.specs.State.{reason_number, with_pc, read_reg, changed}
+use Rattle.rules.specs.Rules.{above, interrupted, next_pc, next, only, writes, exception, breaks, erets, brets, control, set_control}
 use Rattle.trace.specs.Machine.{After, stop, go, load, store, Attempt, halt, quiet, fetch, Machine}
 use Rattle.trace.specs.Via.{via}
-
--- ---- rules 1 and 2
-
--- status, estatus or bstatus is above 1
-abbrev pub above : Core → Bool
-above c = ltb 1 c.status || ltb 1 c.estatus || ltb 1 c.bstatus
-
--- ipending = lines AND ienable
-abbrev pub ipending : ℕ → Core → ℕ
-ipending lines c = bit_and lines c.ienable
-
--- PIE is 1 and ipending is not 0
-abbrev pub interrupted : ℕ → Core → Bool
-interrupted lines c = eqb c.status 1 && not (eqb (ipending lines c) 0)
-
--- ---- where a step goes on
-
-abbrev pub goes : Core → ℕ → Core
-goes c t = record { pc = t; status = c.status; estatus = c.estatus; bstatus = c.bstatus; ienable = c.ienable }
-
-abbrev pub after : Core → ℕ
-after c = add_of c.pc 4
-
-abbrev pub next : Core → Core
-next c = goes c (after c)
-
--- a change that writes no register
-abbrev pub only : Core → Change
-only c = record { dest = 0; value = 0; core = c }
-
-abbrev pub writes : ℕ → ℕ → Core → Change
-writes d v c = record { dest = d; value = v; core = c }
-
--- ---- exceptions, and the ways back
-
--- estatus takes status, PIE becomes 0, ea = address of the instruction + 4, pc = exception address
-abbrev pub exception : Settings → Core → Change
-exception S c = writes 29 (after c) (record { pc = S.exception; status = 0; estatus = c.status; bstatus = c.bstatus; ienable = c.ienable })
-
--- the same with ba, bstatus and the break address
-abbrev pub breaks : Settings → Core → Change
-breaks S c = writes 30 (after c) (record { pc = S.breaks; status = 0; estatus = c.estatus; bstatus = c.status; ienable = c.ienable })
-
-abbrev pub erets : List ℕ → Core → Change
-erets r c = only (record { pc = read_reg r 29; status = c.estatus; estatus = c.estatus; bstatus = c.bstatus; ienable = c.ienable })
-
-abbrev pub brets : List ℕ → Core → Change
-brets r c = only (record { pc = read_reg r 30; status = c.bstatus; estatus = c.estatus; bstatus = c.bstatus; ienable = c.ienable })
-
--- ---- control registers: 0 status, 1 estatus, 2 bstatus, 3 ienable, 4 ipending, 5 cpuid
-
-abbrev pub control : Settings → ℕ → Core → ℕ → ℕ
-control S lines c n =
-    cond (eqb n 0) c.status (cond (eqb n 1) c.estatus (cond (eqb n 2) c.bstatus (cond (eqb n 3) c.ienable (cond (eqb n 4) (ipending lines c) S.cpuid))))
-
--- status, estatus and bstatus keep bit 0 only; writes to 4 and 5 do nothing
-abbrev pub set_control : Core → ℕ → ℕ → Core
-set_control c n v =
-    cond (eqb n 0) (record { pc = c.pc; status = v % 2; estatus = c.estatus; bstatus = c.bstatus; ienable = c.ienable })
-    (cond (eqb n 1) (record { pc = c.pc; status = c.status; estatus = v % 2; bstatus = c.bstatus; ienable = c.ienable })
-    (cond (eqb n 2) (record { pc = c.pc; status = c.status; estatus = c.estatus; bstatus = v % 2; ienable = c.ienable })
-    (cond (eqb n 3) (record { pc = c.pc; status = c.status; estatus = c.estatus; bstatus = c.bstatus; ienable = v })
-    c)))
 
 -- ---- rule 7: loads and stores
 
@@ -106,11 +43,11 @@ stores len c a w v = within len a w (store a (bytes w) v (only (next c)))
 -- ---- rule 8: the instruction takes effect
 
 abbrev pub does : Settings → ℕ → ℕ → List ℕ → Core → Effect → After ℕ Change
-does S lines len r c (Stop n) = stop n
+does S lines len r c (Stop n) = stop (reason_number n)
 does S lines len r c Next = go (only (next c))
 does S lines len r c (Put d v) = go (writes d v (next c))
-does S lines len r c (Go t) = go (only (goes c t))
-does S lines len r c (Link t) = go (writes 31 (after c) (goes c t))
+does S lines len r c (Go t) = go (only (with_pc c t))
+does S lines len r c (Link t) = go (writes 31 (next_pc c) (with_pc c t))
 does S lines len r c (Load d a w sign) = loads len c d a w sign
 does S lines len r c (Store a v w) = stores len c a w v
 does S lines len r c (Read d n) = go (writes d (control S lines c n) (next c))
@@ -119,7 +56,7 @@ does S lines len r c Raise = go (exception S c)
 does S lines len r c Break = go (breaks S c)
 does S lines len r c Eret = go (erets r c)
 does S lines len r c Bret = go (brets r c)
-does S lines len r c Ret = go (only (goes c (read_reg r 31)))
+does S lines len r c Ret = go (only (with_pc c (read_reg r 31)))
 
 -- the word w as an instruction: rules 4 to 6
 abbrev pub executes : Settings → List ℕ → Core → ℕ → Effect

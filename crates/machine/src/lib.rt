@@ -6,184 +6,40 @@ ghost use Rattle.trace.specs.Access.{reads, stores, each, number, put};
 ghost use Rattle.trace.specs.Maps.{mark};
 ghost use Rattle.trace.specs.Machine.{answer};
 ghost use Rattle.maps.specs.Pair.{pair, Room};
-ghost use Rattle.machine.specs.Step.{above as above_of, interrupted as interrupted_of, goes as goes_of, next as next_of, only as only_of, writes as writes_of};
-ghost use Rattle.machine.specs.Step.{exception as exception_of, breaks as breaks_of, erets, brets, control as control_of, set_control, bytes, loaded as loaded_of};
+ghost use Rattle.machine.specs.Step.{bytes, loaded as loaded_of};
 ghost use Rattle.machine.specs.Step.{loads, stores as stores_of, does, executes as executes_of, attempt, machine};
-ghost use Rattle.machine.specs.Ends.{ended, after_end, attempt_end, barred_of, fault_of};
-ghost use Rattle.machine.specs.Calls.{bad_memory, bad_map, bad_address, bad_settings, bad_state, bad_range, fresh_refusal, run_refusal, edit_refusal, run_of, answered, started, fresh_of, edit_of, Lent};
+ghost use Rattle.machine.specs.Ends.{ended, after_end, attempt_end, within_of};
+ghost use Rattle.machine.specs.Calls.{bad_memory, bad_map, bad_address, bad_settings, bad_state, bad_range, fresh_refusal, run_refusal, edit_refusal};
+ghost use Rattle.machine.specs.Calls.{refusal_number, refused, run_of, ran, answered, started, fresh_of, edit_of, told, bad_budget, Lent};
 
 use exec::{Effect, Width};
-use state::{Change, Core, Regs, Settings, State};
+use state::{Change, Core, Reason, Regs, Settings, State};
+use std::ops::Range;
 
-// What a step in code comes to: a stop with its reason, or a change of the state.
-#[derive(Clone, Copy)]
-pub enum Turn {
-    Stop(u32),
-    Make(Change),
-}
-
-// The answer of a run: a refusal's number or a reason, the steps made, the state.
-#[derive(Clone, Copy)]
-pub struct Answered {
-    pub number: u32,
+// What an accepted run tells: why it ended, and the steps made.
+#[derive(Clone, Copy, Debug, PartialEq, Eq)]
+pub struct Ran {
+    pub reason: Reason,
     pub steps: u32,
-    pub state: State,
 }
 
-// The answer of a fresh start: a refusal's number or 0, the state.
-#[derive(Clone, Copy)]
-pub struct Start {
-    pub number: u32,
-    pub state: State,
+// Why a call is not accepted, with the paper's number.
+#[derive(Clone, Copy, Debug, PartialEq, Eq)]
+pub enum Refusal {
+    BadMemory = 1,
+    BadMap = 2,
+    BadSettings = 3,
+    BadState = 4,
+    BadBudget = 5,
+    BadRange = 6,
 }
 
-// The answer of the edit question.
-#[derive(Clone, Copy)]
-pub enum Verdict {
-    Refused(u32),
-    Yes,
-    No,
-}
-
-// ---- the rest of the state
-
-fn above(c: Core) -> bool
-    ensures { result ≡ above_of c }
-{
-    (1 < c.status) | (1 < c.estatus) | (1 < c.bstatus)
-}
-
-fn interrupted(lines: u32, c: Core) -> bool
-    ensures { result ≡ interrupted_of lines c }
-{
-    (c.status == 1) & (word::and(lines, c.ienable) != 0)
-}
-
-fn goes(c: Core, t: u32) -> Core
-    ensures { result ≡ goes_of c t }
-{
-    Core {
-        pc: t,
-        status: c.status,
-        estatus: c.estatus,
-        bstatus: c.bstatus,
-        ienable: c.ienable,
+impl Refusal {
+    pub fn number(self) -> u32
+        ensures { result ≡ refusal_number self }
+    {
+        self as u32
     }
-}
-
-fn next(c: Core) -> Core
-    ensures { result ≡ next_of c }
-{
-    goes(c, word::add(c.pc, 4))
-}
-
-fn only(c: Core) -> Change
-    ensures { result ≡ only_of c }
-{
-    Change {
-        dest: 0,
-        value: 0,
-        core: c,
-    }
-}
-
-fn writes(dest: u32, value: u32, c: Core) -> Change
-    ensures { result ≡ writes_of dest value c }
-{
-    Change {
-        dest,
-        value,
-        core: c,
-    }
-}
-
-// ---- exceptions, and the ways back
-
-fn exception(s: Settings, c: Core) -> Change
-    ensures { result ≡ exception_of s c }
-{
-    let to = Core {
-        pc: s.exception,
-        status: 0,
-        estatus: c.status,
-        bstatus: c.bstatus,
-        ienable: c.ienable,
-    };
-    writes(29, word::add(c.pc, 4), to)
-}
-
-fn breaks(s: Settings, c: Core) -> Change
-    ensures { result ≡ breaks_of s c }
-{
-    let to = Core {
-        pc: s.breaks,
-        status: 0,
-        estatus: c.estatus,
-        bstatus: c.status,
-        ienable: c.ienable,
-    };
-    writes(30, word::add(c.pc, 4), to)
-}
-
-fn eret(r: &[u32; 32], c: Core) -> Change
-    ensures { result ≡ erets r.now c }
-{
-    let to = Core {
-        pc: state::reg(r, 29),
-        status: c.estatus,
-        estatus: c.estatus,
-        bstatus: c.bstatus,
-        ienable: c.ienable,
-    };
-    only(to)
-}
-
-fn bret(r: &[u32; 32], c: Core) -> Change
-    ensures { result ≡ brets r.now c }
-{
-    let to = Core {
-        pc: state::reg(r, 30),
-        status: c.bstatus,
-        estatus: c.estatus,
-        bstatus: c.bstatus,
-        ienable: c.ienable,
-    };
-    only(to)
-}
-
-// ---- control registers
-
-fn control(s: Settings, lines: u32, c: Core, n: u32) -> u32
-    ensures { result ≡ control_of s lines c n }
-{
-    let pending = word::choose(n == 4, word::and(lines, c.ienable), s.cpuid);
-    let enabled = word::choose(n == 3, c.ienable, pending);
-    let broken = word::choose(n == 2, c.bstatus, enabled);
-    let raised = word::choose(n == 1, c.estatus, broken);
-    word::choose(n == 0, c.status, raised)
-}
-
-fn set_control(c: Core, n: u32, v: u32) -> Core
-    ensures { result ≡ set_control c n v }
-{
-    let mut to = c;
-    if n == 0 {
-        to.status = v % 2;
-        return to;
-    }
-    if n == 1 {
-        to.estatus = v % 2;
-        return to;
-    }
-    if n == 2 {
-        to.bstatus = v % 2;
-        return to;
-    }
-    if n == 3 {
-        to.ienable = v;
-        return to;
-    }
-    to
 }
 
 // ---- loads and stores
@@ -208,20 +64,18 @@ fn loaded(w: Width, sign: bool, v: u32) -> u32
     }
 }
 
-// Whether the n bytes at a can't be used: a is no multiple of n, or they pass the end.
-fn barred(len: usize, a: usize, n: usize) -> bool
+// Whether the n bytes at a can be used: a is a multiple of n, else the first reason; and they do not pass the end, else the second.
+fn within(len: usize, a: usize, n: usize, crooked: Reason, past: Reason) -> Result<(), Reason>
     requires { (0 < n) × (a + n < 2 ^ 34) }
-    ensures { result ≡ barred_of len a n }
+    ensures { result ≡ within_of len a n crooked past }
 {
-    !((a % n == 0) & (a + n <= len))
-}
-
-// Why they can't: the first of two numbers, or the second.
-fn fault(crooked: u32, past: u32, a: usize, n: usize) -> u32
-    requires { 0 < n }
-    ensures { result ≡ fault_of crooked past a n }
-{
-    word::choose(a % n == 0, past, crooked)
+    if a % n != 0 {
+        return Err(crooked);
+    }
+    if len < a + n {
+        return Err(past);
+    }
+    Ok(())
 }
 
 // The number in the bytes of width w at a, and their marks.
@@ -275,17 +129,14 @@ fn load(
     at: u32,
     w: Width,
     sign: bool,
-) -> Turn
+) -> Result<Change, Reason>
     requires { Lent mem.old read.old written.old }
     ensures { ended result mem.new read.new written.new ≡ after_end (loads (length mem.old) c dest at w sign) mem.old (pair read.old written.old) }
 {
     let a = at as usize;
-    let n = size(w);
-    if barred(mem.len(), a, n) {
-        return Turn::Stop(fault(15, 16, a, n));
-    }
+    within(mem.len(), a, size(w), Reason::DataMisaligned, Reason::DataPast)?;
     let v = take(mem, read, written, a, w);
-    Turn::Make(writes(dest, loaded(w, sign, v), next(c)))
+    Ok(rules::writes(dest, loaded(w, sign, v), rules::next(c)))
 }
 
 fn store(
@@ -296,17 +147,14 @@ fn store(
     at: u32,
     w: Width,
     v: u32,
-) -> Turn
+) -> Result<Change, Reason>
     requires { Lent mem.old read.old written.old }
     ensures { ended result mem.new read.new written.new ≡ after_end (stores_of (length mem.old) c at w v) mem.old (pair read.old written.old) }
 {
     let a = at as usize;
-    let n = size(w);
-    if barred(mem.len(), a, n) {
-        return Turn::Stop(fault(15, 16, a, n));
-    }
+    within(mem.len(), a, size(w), Reason::DataMisaligned, Reason::DataPast)?;
     give(mem, read, written, a, w, v);
-    Turn::Make(only(next(c)))
+    Ok(rules::only(rules::next(c)))
 }
 
 // The instruction takes effect.
@@ -314,21 +162,21 @@ fn finish(
     mem: &mut [u8],
     read: &mut [u8],
     written: &mut [u8],
-    r: &[u32; 32],
+    regs: &Regs,
     s: Settings,
     lines: u32,
     c: Core,
     e: Effect,
-) -> Turn
+) -> Result<Change, Reason>
     requires { Lent mem.old read.old written.old }
-    ensures { ended result mem.new read.new written.new ≡ after_end (does s lines (length mem.old) r.now c e) mem.old (pair read.old written.old) }
+    ensures { ended result mem.new read.new written.new ≡ after_end (does s lines (length mem.old) regs.now.r c e) mem.old (pair read.old written.old) }
 {
     match e {
-        Effect::Stop(n) => Turn::Stop(n),
-        Effect::Next => Turn::Make(only(next(c))),
-        Effect::Put(d, v) => Turn::Make(writes(d, v, next(c))),
-        Effect::Go(t) => Turn::Make(only(goes(c, t))),
-        Effect::Link(t) => Turn::Make(writes(31, word::add(c.pc, 4), goes(c, t))),
+        Effect::Stop(reason) => Err(reason),
+        Effect::Next => Ok(rules::only(rules::next(c))),
+        Effect::Put(d, v) => Ok(rules::writes(d, v, rules::next(c))),
+        Effect::Go(t) => Ok(rules::only(c.with_pc(t))),
+        Effect::Link(t) => Ok(rules::writes(31, rules::next_pc(c), c.with_pc(t))),
         Effect::Load {
             dest,
             at,
@@ -336,27 +184,27 @@ fn finish(
             sign,
         } => load(mem, read, written, c, dest, at, width, sign),
         Effect::Store { at, value, width } => store(mem, read, written, c, at, width, value),
-        Effect::Read(d, n) => Turn::Make(writes(d, control(s, lines, c, n), next(c))),
-        Effect::Write(n, v) => Turn::Make(only(next(set_control(c, n, v)))),
-        Effect::Raise => Turn::Make(exception(s, c)),
-        Effect::Break => Turn::Make(breaks(s, c)),
-        Effect::Eret => Turn::Make(eret(r, c)),
-        Effect::Bret => Turn::Make(bret(r, c)),
-        Effect::Ret => Turn::Make(only(goes(c, state::reg(r, 31)))),
+        Effect::Read(d, n) => Ok(rules::writes(d, rules::control(s, lines, c, n), rules::next(c))),
+        Effect::Write(n, v) => Ok(rules::only(rules::next(rules::set_control(c, n, v)))),
+        Effect::Raise => Ok(rules::exception(s, c)),
+        Effect::Break => Ok(rules::breaks(s, c)),
+        Effect::Eret => Ok(rules::eret(regs, c)),
+        Effect::Bret => Ok(rules::bret(regs, c)),
+        Effect::Ret => Ok(rules::only(c.with_pc(regs.get(31)))),
     }
 }
 
 // The word w as an instruction.
-fn executes(r: &[u32; 32], s: Settings, c: Core, w: u32) -> Effect
-    ensures { result ≡ executes_of s r.now c w }
+fn executes(regs: &Regs, s: Settings, c: Core, w: u32) -> Effect
+    ensures { result ≡ executes_of s regs.now.r c w }
 {
     let f = isa::split(w);
     let k = isa::decode(w);
     exec::exec(
         k,
         f,
-        state::reg(r, f.a),
-        state::reg(r, f.b),
+        regs.get(f.a),
+        regs.get(f.b),
         c.pc,
         s.multiplier,
         s.divider,
@@ -368,28 +216,25 @@ fn step(
     mem: &mut [u8],
     read: &mut [u8],
     written: &mut [u8],
-    r: &[u32; 32],
+    regs: &Regs,
     s: Settings,
     lines: u32,
     c: Core,
-) -> Turn
+) -> Result<Change, Reason>
     requires { Lent mem.old read.old written.old }
-    ensures { ended result mem.new read.new written.new ≡ attempt_end (attempt s lines (length mem.old) r.now c) mem.old (pair read.old written.old) }
+    ensures { ended result mem.new read.new written.new ≡ attempt_end (attempt s lines (length mem.old) regs.now.r c) mem.old (pair read.old written.old) }
 {
-    if above(c) {
-        return Turn::Stop(17);
+    if rules::above(c) {
+        return Err(Reason::Unsound);
     }
-    if interrupted(lines, c) {
-        return Turn::Make(exception(s, c));
+    if rules::interrupted(lines, c) {
+        return Ok(rules::exception(s, c));
     }
     let at = c.pc as usize;
-    if barred(mem.len(), at, 4) {
-        return Turn::Stop(fault(10, 11, at, 4));
-    }
-    maps::read4(read, written, at);
-    let w = memory::load4(mem, at);
-    let e = executes(r, s, c, w);
-    finish(mem, read, written, r, s, lines, c, e)
+    within(mem.len(), at, 4, Reason::Misaligned, Reason::Past)?;
+    let w = take(mem, read, written, at, Width::Word);
+    let e = executes(regs, s, c, w);
+    finish(mem, read, written, regs, s, lines, c, e)
 }
 
 // At most `budget` steps, until one stops.
@@ -397,40 +242,23 @@ fn steps(
     mem: &mut [u8],
     read: &mut [u8],
     written: &mut [u8],
-    state: State,
+    state: &mut State,
     s: Settings,
     lines: u32,
     budget: u32,
-) -> Answered
+) -> Ran
     requires { Lent mem.old read.old written.old }
-    ensures { answered result mem.new read.new written.new ≡ answer (machine s lines (length mem.old)) budget state mem.old (pair read.old written.old) }
+    ensures { ran result state.new mem.new read.new written.new ≡ answer (machine s lines (length mem.old)) budget state.old mem.old (pair read.old written.old) }
 {
-    let mut regs = state.regs;
-    let mut core = state.core;
-    let mut n: u32 = 0;
-    while n < budget {
-        let t = step(mem, read, written, &regs.r, s, lines, core);
-        match t {
-            Turn::Stop(number) => {
-                let state = State { regs, core };
-                return Answered {
-                    number,
-                    steps: n,
-                    state,
-                };
-            }
-            Turn::Make(change) => {
-                state::put(&mut regs.r, change.dest, change.value);
-                core = change.core;
-            }
+    for n in 0..budget {
+        match step(mem, read, written, &state.regs, s, lines, state.core) {
+            Ok(change) => state.apply(change),
+            Err(reason) => return Ran { reason, steps: n },
         }
-        n += 1;
     }
-    let state = State { regs, core };
-    Answered {
-        number: 0,
-        steps: n,
-        state,
+    Ran {
+        reason: Reason::Spent,
+        steps: budget,
     }
 }
 
@@ -460,77 +288,94 @@ fn bad_settings(len: usize, s: Settings) -> bool
     bad_address(len, s.reset) | bad_address(len, s.exception) | bad_address(len, s.breaks)
 }
 
-fn bad_state(state: State) -> bool
-    ensures { result ≡ bad_state state }
+fn bad_state(state: &State) -> bool
+    ensures { result ≡ bad_state state.now }
 {
-    let regs = state.regs;
-    let core = state.core;
-    (regs.r[0] != 0) | above(core)
+    (state.regs.r[0] != 0) | rules::above(state.core)
 }
 
-fn bad_range(len: usize, start: usize, end: usize) -> bool
-    ensures { result ≡ bad_range len start end }
+fn bad_range(len: usize, range: &Range<usize>) -> bool
+    ensures { result ≡ bad_range len range.now.start range.now.end }
 {
-    (end < start) | (len < end)
+    (range.end < range.start) | (len < range.end)
 }
 
-fn fresh_refusal(len: usize, read: usize, written: usize, s: Settings) -> u32
-    ensures { result ≡ fresh_refusal len read written s }
+fn bad_budget(budget: u32) -> bool
+    ensures { result ≡ bad_budget budget }
 {
-    let lengths = bad_map(len, read) | bad_map(len, written);
-    let settings = word::choose(bad_settings(len, s), 3, 0);
-    word::choose(bad_memory(len), 1, word::choose(lengths, 2, settings))
+    1000000 < budget
 }
 
+// A fresh start uses 1 to 3.
+fn fresh_refusal(len: usize, read: usize, written: usize, s: Settings) -> Result<(), Refusal>
+    ensures { refused result ≡ fresh_refusal len read written s }
+{
+    if bad_memory(len) {
+        return Err(Refusal::BadMemory);
+    }
+    if bad_map(len, read) | bad_map(len, written) {
+        return Err(Refusal::BadMap);
+    }
+    if bad_settings(len, s) {
+        return Err(Refusal::BadSettings);
+    }
+    Ok(())
+}
+
+// A run uses 1 to 5.
 fn run_refusal(
     len: usize,
     read: usize,
     written: usize,
     s: Settings,
-    state: State,
+    state: &State,
     budget: u32,
-) -> u32
-    ensures { result ≡ run_refusal len read written s state budget }
+) -> Result<(), Refusal>
+    ensures { refused result ≡ run_refusal len read written s state.now budget }
 {
-    let lengths = bad_map(len, read) | bad_map(len, written);
-    let given = word::choose(bad_state(state), 4, word::choose(1000000 < budget, 5, 0));
-    let settings = word::choose(bad_settings(len, s), 3, given);
-    word::choose(bad_memory(len), 1, word::choose(lengths, 2, settings))
+    fresh_refusal(len, read, written, s)?;
+    if bad_state(state) {
+        return Err(Refusal::BadState);
+    }
+    if bad_budget(budget) {
+        return Err(Refusal::BadBudget);
+    }
+    Ok(())
 }
 
-fn edit_refusal(len: usize, read: usize, start: usize, end: usize) -> u32
-    ensures { result ≡ edit_refusal len read start end }
+// The edit question uses 1, 2 and 6.
+fn edit_refusal(len: usize, read: usize, range: &Range<usize>) -> Result<(), Refusal>
+    ensures { refused result ≡ edit_refusal len read range.now.start range.now.end }
 {
-    let range = word::choose(bad_range(len, start, end), 6, 0);
-    word::choose(
-        bad_memory(len),
-        1,
-        word::choose(bad_map(len, read), 2, range),
-    )
+    if bad_memory(len) {
+        return Err(Refusal::BadMemory);
+    }
+    if bad_map(len, read) {
+        return Err(Refusal::BadMap);
+    }
+    if bad_range(len, range) {
+        return Err(Refusal::BadRange);
+    }
+    Ok(())
 }
 
 // ---- the calls
 
 // A fresh start: zero in all registers, pc at the reset address, both maps cleared.
-pub fn fresh(mem: &[u8], read: &mut [u8], written: &mut [u8], state: State, s: Settings) -> Start
-    ensures { started result read.new written.new ≡ fresh_of (length mem.now) read.old written.old state s }
+pub fn fresh(
+    mem: &[u8],
+    read: &mut [u8],
+    written: &mut [u8],
+    state: &mut State,
+    s: Settings,
+) -> Result<(), Refusal>
+    ensures { started result state.new read.new written.new ≡ fresh_of (length mem.now) read.old written.old state.old s }
 {
-    let number = fresh_refusal(mem.len(), read.len(), written.len(), s);
-    if number != 0 {
-        return Start { number, state };
-    }
+    fresh_refusal(mem.len(), read.len(), written.len(), s)?;
     maps::wipe(read);
     maps::wipe(written);
-    let regs = Regs { r: [0u32; 32] };
-    let core = Core {
-        pc: s.reset,
-        status: 0,
-        estatus: 0,
-        bstatus: 0,
-        ienable: 0,
-    };
-    let state = State { regs, core };
-    Start { number: 0, state }
+    *state = state::fresh(s.reset);
+    Ok(())
 }
 
 // A run of at most `budget` steps, with the lines held.
@@ -538,34 +383,21 @@ pub fn run(
     mem: &mut [u8],
     read: &mut [u8],
     written: &mut [u8],
-    state: State,
+    state: &mut State,
     s: Settings,
     lines: u32,
     budget: u32,
-) -> Answered
-    ensures { answered result mem.new read.new written.new ≡ run_of mem.old read.old written.old state s lines budget }
+) -> Result<Ran, Refusal>
+    ensures { answered result state.new mem.new read.new written.new ≡ run_of mem.old read.old written.old state.old s lines budget }
 {
-    let number = run_refusal(mem.len(), read.len(), written.len(), s, state, budget);
-    if number != 0 {
-        return Answered {
-            number,
-            steps: 0,
-            state,
-        };
-    }
-    steps(mem, read, written, state, s, lines, budget)
+    run_refusal(mem.len(), read.len(), written.len(), s, state, budget)?;
+    Ok(steps(mem, read, written, state, s, lines, budget))
 }
 
-// Whether an edit of the bytes start..end leaves the run as it is.
-pub fn edit(len: usize, read: &[u8], start: usize, end: usize) -> Verdict
-    ensures { result ≡ edit_of len read.now start end }
+// Whether an edit of the bytes of the range leaves the run as it is.
+pub fn edit(len: usize, read: &[u8], range: Range<usize>) -> Result<bool, Refusal>
+    ensures { told result ≡ edit_of len read.now range.start range.end }
 {
-    let number = edit_refusal(len, read.len(), start, end);
-    if number != 0 {
-        return Verdict::Refused(number);
-    }
-    if maps::none(read, start, end) {
-        return Verdict::Yes;
-    }
-    Verdict::No
+    edit_refusal(len, read.len(), &range)?;
+    Ok(maps::none(read, range.start, range.end))
 }

@@ -5,7 +5,7 @@ ghost use Rattle.std.specs.Prelude.{◌≡◌};
 ghost use Rattle.rules.specs.Rules.{above as above_of, ipending, interrupted as interrupted_of, next_pc, next as next_of, only as only_of, writes as writes_of};
 ghost use Rattle.rules.specs.Rules.{exception as exception_of, breaks as breaks_of, erets, brets, control as control_of, set_control};
 
-use state::{Change, Core, Settings};
+use state::{Change, Core, Regs, Settings};
 
 // ---- rules 1 and 2
 
@@ -73,16 +73,16 @@ pub fn breaks(s: Settings, c: Core) -> Change
     writes(30, next_pc(c), entered)
 }
 
-pub fn eret(r: &[u32; 32], c: Core) -> Change
-    ensures { result ≡ erets r.now c }
+pub fn eret(regs: &Regs, c: Core) -> Change
+    ensures { result ≡ erets regs.now.r c }
 {
-    only(c.with_status(c.estatus).with_pc(state::reg(r, 29)))
+    only(c.with_status(c.estatus).with_pc(regs.get(29)))
 }
 
-pub fn bret(r: &[u32; 32], c: Core) -> Change
-    ensures { result ≡ brets r.now c }
+pub fn bret(regs: &Regs, c: Core) -> Change
+    ensures { result ≡ brets regs.now.r c }
 {
-    only(c.with_status(c.bstatus).with_pc(state::reg(r, 30)))
+    only(c.with_status(c.bstatus).with_pc(regs.get(30)))
 }
 
 // ---- control registers

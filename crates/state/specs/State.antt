@@ -5,10 +5,20 @@ use Rattle.state.specs.declared.Regs.{Regs}
 use Rattle.state.specs.declared.Core.{Core}
 use Rattle.state.specs.declared.State.{State}
 use Rattle.state.specs.declared.Change.{Change}
+use Rattle.state.specs.declared.Reason.{Reason}
+use Rattle.state.specs.declared.Reason.TheVariants.{Spent, Misaligned, Past, Outside, Custom, Quotient, DataMisaligned, DataPast, Unsound}
 
--- why a run ended: a number of document 01
-abbrev pub Reason : Type 0
-Reason = ℕ
+-- the paper's number of a reason
+abbrev pub reason_number : Reason → ℕ
+reason_number Spent = 0
+reason_number Misaligned = 10
+reason_number Past = 11
+reason_number Outside = 12
+reason_number Custom = 13
+reason_number Quotient = 14
+reason_number DataMisaligned = 15
+reason_number DataPast = 16
+reason_number Unsound = 17
 
 -- ---- the rest of the state with one of its words changed
 

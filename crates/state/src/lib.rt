@@ -4,7 +4,7 @@
 
 ghost use Rattle.std.specs.Prelude.{◌≡◌, ◌++◌, length, take};
 ghost use Rattle.state.specs.State.{with_pc, with_status, with_estatus, with_bstatus, with_ienable};
-ghost use Rattle.state.specs.State.{write, write_regs, read_reg, fresh_state};
+ghost use Rattle.state.specs.State.{reason_number, write_regs, read_reg, fresh_state, changed};
 ghost use Rattle.state.specs.Words.{state_length, core_of, core_words, state_of, words_of};
 ghost use Rattle.state.specs.Words.{settings_length, settings_of};
 
@@ -49,8 +49,36 @@ pub struct Change {
     pub core: Core,
 }
 
-// Why a run ended.
-pub type Reason = u32;
+// Why a run ended, with the paper's number.
+#[derive(Clone, Copy, Debug, PartialEq, Eq)]
+pub enum Reason {
+    // the budget is spent
+    Spent = 0,
+    // pc is no multiple of 4
+    Misaligned = 10,
+    // pc + 4 is above the memory length
+    Past = 11,
+    // a word outside the list
+    Outside = 12,
+    // OP 32
+    Custom = 13,
+    // a division without a quotient
+    Quotient = 14,
+    // a data address is no multiple of the width
+    DataMisaligned = 15,
+    // address + width is above the memory length
+    DataPast = 16,
+    // status, estatus or bstatus is above 1
+    Unsound = 17,
+}
+
+impl Reason {
+    pub fn number(self) -> u32
+        ensures { result ≡ reason_number self }
+    {
+        self as u32
+    }
+}
 
 // ---- the rest of the state, one word at a time
 
@@ -105,28 +133,36 @@ impl Regs {
         }
         self
     }
-}
 
-// The registers of a run take v in register i. What the method hands back differs in that register alone, so that one is stored.
-pub fn put(r: &mut [u32; 32], i: u32, v: u32)
-    ensures { r.new ≡ write r.old i v }
-{
-    let k = (i % 32) as usize;
-    if k == 0 {
-        return;
+    // The registers of a run take v in register i. What `with` hands back differs in that register alone, so that one is stored.
+    pub fn set(&mut self, i: u32, v: u32)
+        ensures { self.new ≡ write_regs self.old i v }
+    {
+        let k = (i % 32) as usize;
+        if k == 0 {
+            return;
+        }
+        let after = self.with(i, v);
+        self.r[k] = after.r[k];
     }
-    let whole = *r;
-    let regs = Regs { r: whole };
-    let after = regs.with(i, v);
-    r[k] = after.r[k];
+
+    // Register i modulo 32.
+    pub fn get(&self, i: u32) -> u32
+        ensures { result ≡ read_reg self.now.r i }
+    {
+        let k = (i % 32) as usize;
+        self.r[k]
+    }
 }
 
-// Register i modulo 32.
-pub fn reg(r: &[u32; 32], i: u32) -> u32
-    ensures { result ≡ read_reg r.now i }
-{
-    let k = (i % 32) as usize;
-    r[k]
+impl State {
+    // A step that is made changes the state.
+    pub fn apply(&mut self, change: Change)
+        ensures { self.new ≡ changed self.old change }
+    {
+        self.regs.set(change.dest, change.value);
+        self.core = change.core;
+    }
 }
 
 // Zero in all registers, and a pc.

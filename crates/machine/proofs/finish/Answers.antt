@@ -17,11 +17,11 @@ returns-in-Put c = rw (c.in-Put.is, c.writes.ensures, c.next-in-Put.ensures)
 
 pub returns-in-Go : goal.returns-in-Go
 unfolding after_end
-returns-in-Go c = rw (c.in-Go.is, c.only-in-Go.ensures, c.goes.ensures)
+returns-in-Go c = rw (c.in-Go.is, c.only-in-Go.ensures, c.with_pc.ensures)
 
 pub returns-in-Link : goal.returns-in-Link
 unfolding after_end
-returns-in-Link c = rw (c.in-Link.is, c.writes-in-Link.ensures, c.goes-in-Link.ensures, c.add.ensures)
+returns-in-Link c = rw (c.in-Link.is, c.writes-in-Link.ensures, c.with_pc-in-Link.ensures, c.next_pc.ensures)
 
 pub returns-in-Load : goal.returns-in-Load
 unfolding after_end
@@ -57,4 +57,4 @@ returns-in-Bret c = rw (c.in-Bret.is, c.bret.ensures)
 
 pub returns-in-Ret : goal.returns-in-Ret
 unfolding after_end
-returns-in-Ret c = rw (c.in-Ret.is, c.only-in-Ret.ensures, c.goes-in-Ret.ensures, c.reg.ensures)
+returns-in-Ret c = rw (c.in-Ret.is, c.only-in-Ret.ensures, c.with_pc-in-Ret.ensures, c.get.ensures)

@@ -1,22 +1,21 @@
 -- `machine::store` meets its contract: by the laws of a store that stops and of one that is made.
 -- Assumes nothing.
-use Prim.Native.Nat.{◌+◌}
+use Rattle.std.proofs.Common.{◌+◌, sym, ◌∙◌, arith}
+use Rattle.std.proofs.lemmas.Result.{err_from_is_err_and}
 use Rattle.machine.specs.Step.{bytes}
 use Rattle.machine.proofs.Rules.{bytes_range, inside, room, store_stops, store_makes}
-use native.Mathlib.Omega.{arith}
 use Rattle.machine.proofs.store.Goals as goal
 
-pub barred-requires : goal.barred-requires
-barred-requires c = (omega (arith, c.size-n.ensures, (bytes_range c.args.w).0), omega (arith, c.size-n.ensures, (bytes_range c.args.w).1))
+pub within-requires : goal.within-requires
+within-requires c = (omega (arith, c.size.ensures, (bytes_range c.args.w).0), omega (arith, c.size.ensures, (bytes_range c.args.w).1))
 
-pub fault-requires : goal.fault-requires
-fault-requires c = omega (arith, c.size-n.ensures, (bytes_range c.args.w).0)
-
-pub returns-then-barred : goal.returns-then-barred
-returns-then-barred c = store_stops c.args.mem.now c.args.read.now c.args.written.now c.args.c c.args.at c.args.w c.size-n.result c.size-n.ensures c.barred.result c.barred.ensures c.if-barred.true c.args.v _ c.fault.ensures
+pub returns-in_err-within : goal.returns-in_err-within
+returns-in_err-within c =
+    let p = err_from_is_err_and c.from_residual.result c.from_residual.ensures.1 in
+    rw (p.1, p.2) (store_stops c.args.mem.now c.args.read.now c.args.written.now c.args.c c.args.at c.args.w c.size.result c.size.ensures _ (sym c.in_err-within.was ∙ c.within.ensures) c.args.v)
 
 pub give-requires : goal.give-requires
-give-requires c = let h = inside c.args.mem.now c.args.read.now c.args.written.now c.args.c c.args.at c.args.w c.size-n.result c.size-n.ensures c.barred.result c.barred.ensures c.if-barred.false in (h, room c.args.mem.now c.args.read.now c.args.written.now (c.args.at + bytes c.args.w) c.requires h)
+give-requires c = let h = inside c.args.mem.now c.args.read.now c.args.written.now c.args.c c.args.at c.args.w c.size.result c.size.ensures _ (sym c.in_ok-within.was ∙ c.within.ensures) in (h, room c.args.mem.now c.args.read.now c.args.written.now (c.args.at + bytes c.args.w) c.requires h)
 
 pub returns : goal.returns
-returns c = store_makes c.args.mem.now c.args.read.now c.args.written.now c.args.c c.args.at c.args.w c.size-n.result c.size-n.ensures c.barred.result c.barred.ensures c.if-barred.false c.args.v _ _ _ _ _ c.give.ensures.0 c.give.ensures.1 c.next.ensures c.only.ensures
+returns c = store_makes c.args.mem.now c.args.read.now c.args.written.now c.args.c c.args.at c.args.w c.size.result c.size.ensures _ (sym c.in_ok-within.was ∙ c.within.ensures) c.args.v _ _ _ _ _ c.give.ensures.0 c.give.ensures.1 c.next.ensures c.only.ensures

@@ -3,4 +3,4 @@
 use Rattle.rules.proofs.eret.Goals as goal
 
 pub returns : goal.returns
-returns c = rw (c.only.ensures, c.with_pc.ensures, c.with_status.ensures, c.reg.ensures)
+returns c = rw (c.only.ensures, c.with_pc.ensures, c.with_status.ensures, c.get.ensures)
