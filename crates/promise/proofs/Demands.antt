@@ -15,9 +15,9 @@ use Rattle.state.specs.declared.Settings.{Settings}
 use Rattle.trace.specs.Access.{number, Stored}
 use Rattle.trace.specs.Maps.{mark, bit, cleared}
 use Rattle.trace.specs.Machine.{fetched, go, quiet, answer, run, Answer}
-use Rattle.machine.specs.declared.Verdict.TheVariants.{Refused, Yes}
-use Rattle.machine.specs.Step.{above, interrupted, attempt, exception, breaks, does, machine}
-use Rattle.machine.specs.Calls.{answered, fresh_tests, run_tests, edit_tests, run_refusal, fresh_refusal, edit_refusal, run_of, started, fresh_of, edit_of, unless_refused, fresh_state}
+use Rattle.rules.specs.Rules.{above, interrupted, exception, breaks}
+use Rattle.machine.specs.Step.{attempt, does, machine}
+use Rattle.machine.specs.Calls.{answered, fresh_tests, run_tests, edit_tests, run_refusal, fresh_refusal, edit_refusal, run_of, fresh_of, edit_of, Refused, Yes, unless_refused, fresh_state}
 use Rattle.machine.proofs.Accepted.{run_refused, run_accepted, fresh_refused, edit_refused, lent, fresh_accepted}
 use native.Mathlib.Decide.{dec_lt, dec_le}
 use native.Mathlib.Omega.{arith}
@@ -27,8 +27,10 @@ use Rattle.state.specs.State.{read_reg, changed}
 use Rattle.trace.proofs.Marks.{mark-lengths}
 use Rattle.trace.specs.Demand.{Exactly, Edit, Survives}
 use Rattle.trace.proofs.Theorems as theory
-use Rattle.machine.specs.declared.Answered.{Answered}
+use Rattle.machine.specs.declared.Ran.{Ran}
+use Rattle.machine.specs.declared.Refusal.{Refusal}
 use Rattle.promise.specs.Calls.{cleared_run, Differs, Sound, Given}
+use Rattle.std.proofs.Common.{Result, Ok, Err}
 use Rattle.promise.proofs.Numbers.{in_order}
 use Rattle.promise.proofs.Fair.{other, kept, accepted_sound}
 use Rattle.promise.proofs.Edits.{unless_survives, none_in, yes_none}
@@ -57,7 +59,7 @@ pub run_unchanged : (m read written : List ℕ) (s : State) (S : Settings) (line
 run_unchanged m read written s S lines budget f = sym (run_refused m read written s S lines budget (run_refusal (length m) (length read) (length written) S s budget) refl f)
 
 pub fresh_unchanged : (len : ℕ) (read written : List ℕ) (s : State) (S : Settings) → fresh_refusal len (length read) (length written) S ≢ 0
-    → fresh_of len read written s S ≡ started (record { number = fresh_refusal len (length read) (length written) S; state = s }) read written
+    → fresh_of len read written s S ≡ record { number = fresh_refusal len (length read) (length written) S; state = s; maps = pair read written }
 fresh_unchanged len read written s S f = sym (fresh_refused len read written s S (fresh_refusal len (length read) (length written) S) refl f)
 
 pub edit_refuses : (len : ℕ) (map : List ℕ) (start end : ℕ) → edit_refusal len (length map) start end ≢ 0
@@ -137,6 +139,11 @@ module _ (m read written : List ℕ) (s : State) (S : Settings) (lines budget : 
 
 -- ==== DEMAND 3
 
+-- the maps that a call leaves
+maps_of : (r : Result Ran Refusal) (s : State) (m read written : List ℕ) → (answered r s m read written).maps ≡ pair read written
+maps_of (Ok r) s m read written = refl
+maps_of (Err f) s m read written = refl
+
 module _ (n : ℕ) (s : State) (S : Settings) (lines budget : ℕ) (m : List ℕ) where
   refusal : ℕ → ℕ
   refusal len = run_refusal len (length (replicate {A = ℕ} n 0)) (length (replicate {A = ℕ} n 0)) S s budget
@@ -162,11 +169,11 @@ module _ (n : ℕ) (s : State) (S : Settings) (lines budget : ℕ) (m : List ℕ
       (λ z x. theory.survives (machine S lines (length m)) budget s m n (fits z) m' x))
 
   -- the same of any two outcomes that meet the contract of a run
-  pub survives_call : (r r' : Answered) (m' m₁ m₂ read₁ read₂ written₁ written₂ : List ℕ)
-      → answered r m₁ read₁ written₁ ≡ cleared_run n s S lines budget m → answered r' m₂ read₂ written₂ ≡ cleared_run n s S lines budget m'
-      → Edit (pair read₁ written₁) m m' → Survives m m' (answered r m₁ read₁ written₁) (answered r' m₂ read₂ written₂)
-  survives_call r r' m' m₁ m₂ read₁ read₂ written₁ written₂ p q e =
-      rw (p, q) (survives m' (subst (λ (x : Answer ℕ State). Edit x.maps m m') p e))
+  pub survives_call : (r r' : Result Ran Refusal) (s₁ s₂ : State) (m' m₁ m₂ read₁ read₂ written₁ written₂ : List ℕ)
+      → answered r s₁ m₁ read₁ written₁ ≡ cleared_run n s S lines budget m → answered r' s₂ m₂ read₂ written₂ ≡ cleared_run n s S lines budget m'
+      → Edit (pair read₁ written₁) m m' → Survives m m' (answered r s₁ m₁ read₁ written₁) (answered r' s₂ m₂ read₂ written₂)
+  survives_call r r' s₁ s₂ m' m₁ m₂ read₁ read₂ written₁ written₂ p q e =
+      rw (p, q) (survives m' (subst (λ (x : Answer ℕ State). Edit x.maps m m') p (rw (maps_of r s₁ m₁ read₁ written₁) e)))
 
   -- where the edit question says yes, a memory that differs inside the range only gives the same run
   pub yes_survives : (start end : ℕ) (m' : List ℕ) → edit_of (length m) (cleared_run n s S lines budget m).maps.read_first start end ≡ Yes
@@ -182,5 +189,5 @@ module _ (n : ℕ) (s : State) (S : Settings) (lines budget : ℕ) (m : List ℕ
 
 -- an accepted fresh start leaves cleared maps, so the promises hold of the run that follows it
 pub fresh_clears : (len : ℕ) (read written : List ℕ) (s : State) (S : Settings) → fresh_refusal len (length read) (length written) S ≡ 0
-    → fresh_of len read written s S ≡ started (record { number = 0; state = fresh_state S }) (replicate (length read) 0) (replicate (length written) 0)
+    → fresh_of len read written s S ≡ record { number = 0; state = fresh_state S; maps = pair (replicate (length read) 0) (replicate (length written) 0) }
 fresh_clears len read written s S z = sym (fresh_accepted len read written s S 0 (sym z) refl (replicate (length read) 0) (replicate (length written) 0) refl refl)

@@ -17,9 +17,7 @@ use Rattle.trace.specs.Maps.{bit, cleared}
 use Rattle.trace.specs.Machine.{Answer}
 use Rattle.trace.specs.Demand.{Edit, Survives}
 use Rattle.trace.proofs.Bits.{clear_bit}
-use Rattle.machine.specs.declared.Verdict.{Verdict}
-use Rattle.machine.specs.declared.Verdict.TheVariants.{Yes}
-use Rattle.machine.specs.Calls.{unless_refused, edit_refusal, unless_bad, asked, edit_of}
+use Rattle.machine.specs.Calls.{Verdict, Yes, unless_refused, edit_refusal, unless_bad, asked, edit_of}
 
 -- no bit of a cleared map is set
 none_set_lem : (n k : ℕ) → bit (replicate n 0) k ≡ 1 → ⊥

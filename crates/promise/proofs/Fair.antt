@@ -18,12 +18,13 @@ use Rattle.state.specs.declared.Core.{Core}
 use Rattle.state.specs.declared.State.{State}
 use Rattle.state.specs.declared.Settings.{Settings}
 use Rattle.state.specs.declared.Change.{Change}
-use Rattle.state.specs.State.{write, read_reg, changed}
+use Rattle.state.specs.State.{with_pc, write, read_reg, changed}
 use Rattle.state.proofs.Writes.{write_none, write_one}
 use Rattle.trace.specs.Machine.{After, stop, go, load, store, Attempt, halt, quiet, fetch, run}
 use Rattle.trace.specs.Via.{via, via_after}
 use Rattle.trace.proofs.Always.{AlwaysAfter, Always, Kept, run_kept}
-use Rattle.machine.specs.Step.{above, interrupted, goes, set_control, bytes, within, does, executes, attempt, machine}
+use Rattle.rules.specs.Rules.{above, interrupted, set_control}
+use Rattle.machine.specs.Step.{bytes, within, does, executes, attempt, machine}
 use Rattle.isa.specs.Words.{kind_of, fields_of}
 use Rattle.promise.proofs.Reasons.{Named, exec_named}
 use Rattle.machine.specs.Calls.{bad_state, run_tests, run_refusal}
@@ -80,7 +81,7 @@ within_fair len a w x f =
     fifteen
 
 module _ (S : Settings) (lines len : ℕ) (r : List ℕ) (c : Core) (f : Flags c) where
-  keep : (t : ℕ) → Flags (goes c t)
+  keep : (t : ℕ) → Flags (with_pc c t)
   keep t = record { status = f.status; estatus = f.estatus; bstatus = f.bstatus }
 
   does_fair : (e : Effect) → Named e → AlwaysAfter Stopping Fair (does S lines len r c e)

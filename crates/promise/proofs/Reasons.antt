@@ -16,12 +16,14 @@ use Rattle.isa.specs.declared.Kind.TheVariants.{Roli, Rol, Flushp, Ret, Nor, Mul
 use Rattle.isa.specs.declared.Kind.TheVariants.{Sll, Or, Mulxsu, Cmpne, Srli, Srl, Nextpc, Callr, Xor, Mulxss, Cmpeq, Divu, Div, Rdctl}
 use Rattle.isa.specs.declared.Kind.TheVariants.{Mul, Cmpgeu, Initi, Trap, Wrctl, Cmpltu, Add, Break, Sync, Sub, Srai, Sra, Outside}
 use Rattle.isa.specs.declared.Fields.{Fields}
+use Rattle.state.specs.declared.Reason.TheVariants as reason
+use Rattle.state.specs.State.{reason_number}
 use Rattle.exec.specs.declared.Effect.{Effect}
 use Rattle.exec.specs.declared.Effect.TheVariants as effect
 use Rattle.exec.specs.Exec.{signed_of, branch_of, present_of, divide_of, exec_of}
 
 abbrev pub Named : Effect → Type 0
-Named (effect.Stop n) = n ≢ 0
+Named (effect.Stop n) = reason_number n ≢ 0
 Named effect.Next = Unit {0}
 Named (effect.Put d v) = Unit {0}
 Named (effect.Go t) = Unit {0}
@@ -50,7 +52,7 @@ divide_fair true d ByZero = λ e. omega arith
 divide_fair true d TooLarge = λ e. omega arith
 divide_fair false d q = tt
 
-control_fair : (t : Bool) (x : Effect) → Named x → Named (cond t x (effect.Stop 12))
+control_fair : (t : Bool) (x : Effect) → Named x → Named (cond t x (effect.Stop reason.Outside))
 control_fair true x p = p
 control_fair false x p = λ e. omega arith
 
