@@ -2,11 +2,11 @@
 #![tactic(auto)]
 
 ghost use Rattle.std.specs.Prelude.{◌≡◌};
-ghost use Rattle.exec.specs.Exec.{signed_of, call_of, branch_of, present_of, quotient_of, divide_of, load_of, store_of, read_of, write_of, exec_of};
+ghost use Rattle.exec.specs.Exec.{signed_of, call_of, branch_of, with_unit, with_control, quotient_of, load_of, store_of, listed_of, exec_of};
 
 use isa::{Fields, Kind};
 use state::Reason;
-use word::Quotient;
+use word::Undefined;
 
 // How much a load or a store moves.
 #[derive(Clone, Copy)]
@@ -57,7 +57,7 @@ pub enum Effect {
 fn signed(f: Fields) -> u32
     ensures { result ≡ signed_of f }
 {
-    word::extend_half(f.imm16)
+    word::extend::<16>(f.imm16)
 }
 
 fn call_target(f: Fields, pc: u32) -> u32
@@ -97,55 +97,35 @@ fn store(f: Fields, a: u32, b: u32, width: Width) -> Effect
 }
 
 // An instruction whose unit may be missing.
-fn present(there: bool, dest: u32, value: u32) -> Effect
-    ensures { result ≡ present_of there dest value }
+fn with_unit(there: bool, e: Effect) -> Effect
+    ensures { result ≡ with_unit there e }
 {
-    if there {
-        return Effect::Put(dest, value);
-    }
-    Effect::Raise
+    if there { e } else { Effect::Raise }
 }
 
-fn quotient(dest: u32, q: Quotient) -> Effect
+// An instruction that names a control register.
+fn with_control(f: Fields, e: Effect) -> Effect
+    ensures { result ≡ with_control f e }
+{
+    if f.imm5 < 6 {
+        e
+    } else {
+        Effect::Stop(Reason::Outside)
+    }
+}
+
+fn quotient(dest: u32, q: Result<u32, Undefined>) -> Effect
     ensures { result ≡ quotient_of dest q }
 {
     match q {
-        Quotient::Value(v) => Effect::Put(dest, v),
-        Quotient::ByZero => Effect::Stop(Reason::Quotient),
-        Quotient::TooLarge => Effect::Stop(Reason::Quotient),
+        Ok(v) => Effect::Put(dest, v),
+        Err(_) => Effect::Stop(Reason::Quotient),
     }
 }
 
-fn divide(there: bool, dest: u32, q: Quotient) -> Effect
-    ensures { result ≡ divide_of there dest q }
-{
-    if there {
-        return quotient(dest, q);
-    }
-    Effect::Raise
-}
-
-fn read_control(f: Fields) -> Effect
-    ensures { result ≡ read_of f }
-{
-    if f.imm5 < 6 {
-        return Effect::Read(f.c, f.imm5);
-    }
-    Effect::Stop(Reason::Outside)
-}
-
-fn write_control(f: Fields, a: u32) -> Effect
-    ensures { result ≡ write_of f a }
-{
-    if f.imm5 < 6 {
-        return Effect::Write(f.imm5, a);
-    }
-    Effect::Stop(Reason::Outside)
-}
-
-// a and b are the registers A and B; mul and div say whether multiplier and divider are present.
-pub fn exec(k: Kind, f: Fields, a: u32, b: u32, pc: u32, mul: bool, div: bool) -> Effect
-    ensures { result ≡ exec_of k f a b pc mul div }
+// A word of the list. a and b are the registers A and B; mul and div say whether multiplier and divider are present.
+fn listed(k: Kind, f: Fields, a: u32, b: u32, pc: u32, mul: bool, div: bool) -> Effect
+    ensures { result ≡ listed_of k f a b pc mul div }
 {
     match k {
         Kind::Call => Effect::Link(call_target(f, pc)),
@@ -169,7 +149,7 @@ pub fn exec(k: Kind, f: Fields, a: u32, b: u32, pc: u32, mul: bool, div: bool) -
         Kind::Xori => Effect::Put(f.b, word::xor(a, f.imm16)),
         Kind::Bne => branch(f, pc, a != b),
         Kind::Cmpeqi => Effect::Put(f.b, word::flag(a == signed(f))),
-        Kind::Muli => present(mul, f.b, word::mul(a, signed(f))),
+        Kind::Muli => with_unit(mul, Effect::Put(f.b, word::mul(a, signed(f)))),
         Kind::Beq => branch(f, pc, a == b),
         Kind::Cmpgeui => Effect::Put(f.b, word::flag(!word::less(a, f.imm16))),
         Kind::Andhi => Effect::Put(f.b, word::and(a, word::high(f.imm16))),
@@ -195,7 +175,7 @@ pub fn exec(k: Kind, f: Fields, a: u32, b: u32, pc: u32, mul: bool, div: bool) -
         Kind::Flushp => Effect::Next,
         Kind::Ret => Effect::Ret,
         Kind::Nor => Effect::Put(f.c, word::nor(a, b)),
-        Kind::Mulxuu => present(mul, f.c, word::mulxuu(a, b)),
+        Kind::Mulxuu => with_unit(mul, Effect::Put(f.c, word::mulxuu(a, b))),
         Kind::Cmpge => Effect::Put(f.c, word::flag(!word::less_signed(a, b))),
         Kind::Bret => Effect::Bret,
         Kind::Ror => Effect::Put(f.c, word::ror(a, b)),
@@ -206,23 +186,23 @@ pub fn exec(k: Kind, f: Fields, a: u32, b: u32, pc: u32, mul: bool, div: bool) -
         Kind::Slli => Effect::Put(f.c, word::sll(a, f.imm5)),
         Kind::Sll => Effect::Put(f.c, word::sll(a, b)),
         Kind::Or => Effect::Put(f.c, word::or(a, b)),
-        Kind::Mulxsu => present(mul, f.c, word::mulxsu(a, b)),
+        Kind::Mulxsu => with_unit(mul, Effect::Put(f.c, word::mulxsu(a, b))),
         Kind::Cmpne => Effect::Put(f.c, word::flag(a != b)),
         Kind::Srli => Effect::Put(f.c, word::srl(a, f.imm5)),
         Kind::Srl => Effect::Put(f.c, word::srl(a, b)),
         Kind::Nextpc => Effect::Put(f.c, word::add(pc, 4)),
         Kind::Callr => Effect::Link(a),
         Kind::Xor => Effect::Put(f.c, word::xor(a, b)),
-        Kind::Mulxss => present(mul, f.c, word::mulxss(a, b)),
+        Kind::Mulxss => with_unit(mul, Effect::Put(f.c, word::mulxss(a, b))),
         Kind::Cmpeq => Effect::Put(f.c, word::flag(a == b)),
-        Kind::Divu => divide(div, f.c, word::divu(a, b)),
-        Kind::Div => divide(div, f.c, word::div(a, b)),
-        Kind::Rdctl => read_control(f),
-        Kind::Mul => present(mul, f.c, word::mul(a, b)),
+        Kind::Divu => with_unit(div, quotient(f.c, word::divu(a, b))),
+        Kind::Div => with_unit(div, quotient(f.c, word::div(a, b))),
+        Kind::Rdctl => with_control(f, Effect::Read(f.c, f.imm5)),
+        Kind::Mul => with_unit(mul, Effect::Put(f.c, word::mul(a, b))),
         Kind::Cmpgeu => Effect::Put(f.c, word::flag(!word::less(a, b))),
         Kind::Initi => Effect::Next,
         Kind::Trap => Effect::Raise,
-        Kind::Wrctl => write_control(f, a),
+        Kind::Wrctl => with_control(f, Effect::Write(f.imm5, a)),
         Kind::Cmpltu => Effect::Put(f.c, word::flag(word::less(a, b))),
         Kind::Add => Effect::Put(f.c, word::add(a, b)),
         Kind::Break => Effect::Break,
@@ -230,6 +210,23 @@ pub fn exec(k: Kind, f: Fields, a: u32, b: u32, pc: u32, mul: bool, div: bool) -
         Kind::Sub => Effect::Put(f.c, word::sub(a, b)),
         Kind::Srai => Effect::Put(f.c, word::sra(a, f.imm5)),
         Kind::Sra => Effect::Put(f.c, word::sra(a, b)),
-        Kind::Outside => Effect::Stop(Reason::Outside),
+    }
+}
+
+// A word, by its kind: one that is not in the list has none.
+pub fn exec(
+    k: Option<Kind>,
+    f: Fields,
+    a: u32,
+    b: u32,
+    pc: u32,
+    mul: bool,
+    div: bool,
+) -> Effect
+    ensures { result ≡ exec_of k f a b pc mul div }
+{
+    match k {
+        Some(k) => listed(k, f, a, b, pc, mul, div),
+        None => Effect::Stop(Reason::Outside),
     }
 }

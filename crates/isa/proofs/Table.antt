@@ -1,18 +1,21 @@
--- A table that holds a function's values gives the function's value at each of its places.
--- That a constant is such a table is one comparison of two lists, which antt computes.
+-- The two tables hold the kinds of the list: each is compared whole, once, with the list's kinds, which antt computes.
 -- Assumes nothing.
-use mathlib.Core.Path.{◌≡◌, refl}
-use mathlib.Core.List.{List, [], ◌∷◌}
-use Prim.Native.Nat.{ℕ, zero, suc, ◌<◌}
-use native.Mathlib.Nat.{le_of_suc-le-suc, not-suc-le-zero}
-use lib.ListN.{get_or}
+use Rattle.std.proofs.Common.{◌≡◌, ℕ, ◌<◌, List, Option, None, slice_index_or, map, refl, ap, ◌∙◌, arith}
+use Rattle.std.specs.List.{range_with_len}
+use Rattle.std.proofs.lemmas.List.FromFn.{get_or-map-range_with_len}
+use Rattle.isa.specs.declared.Kind.{Kind}
+use Rattle.isa.specs.declared.TheConstants.{OP, OPX}
+use Rattle.isa.specs.Words.{op_list, opx_list, op_kind, opx_kind}
 
--- f 0, f 1, .. , n of them
-abbrev pub values : {A : Type 0} → (ℕ → A) → ℕ → List A
-values f zero = []
-values f (suc n) = f 0 ∷ values (λ k. f (suc k)) n
+pub op_table : OP.now ≡ map op_kind (range_with_len 0 64)
+unfolding op_kind op_list
+op_table = refl
 
-pub at : {A : Type 0} (f : ℕ → A) (n : ℕ) (d : A) (k : ℕ) → k < n → get_or (values f n) k d ≡ f k
-at f zero d k h = absurd (not-suc-le-zero h)
-at f (suc n) d zero h = refl
-at f (suc n) d (suc k) h = at (λ j. f (suc j)) n d k (le_of_suc-le-suc h)
+pub opx_table : OPX.now ≡ map opx_kind (range_with_len 0 64)
+unfolding opx_kind opx_list
+opx_table = refl
+
+-- a table that holds a function's values gives the function's value at each of its places
+pub entry : (f : ℕ → Option Kind) (table : List (Option Kind)) → table ≡ map f (range_with_len 0 64)
+    → (n : ℕ) → n < 64 → slice_index_or table n None ≡ f n
+entry f table same n h = ap (λ kinds. slice_index_or kinds n None) same ∙ get_or-map-range_with_len f 0 64 n n None h (omega arith)

@@ -1,11 +1,14 @@
 // Instruction words: their fields, their kinds, and the two tables by which a word is decoded.
 #![tactic(auto)]
 
-ghost use Rattle.std.specs.Prelude.{◌≡◌, ◌<◌};
-ghost use Rattle.isa.specs.Words.{fields_of, op_kind, opx_kind, kind_of};
+ghost use Rattle.std.specs.Prelude.{◌≡◌};
+ghost use Rattle.isa.specs.Words.{fields_of, kind_of};
+
+use Kind::*;
 
 // One for each mnemonic of the list, in the list's order; the io forms after their OP list.
-#[derive(Clone, Copy)]
+// No Debug: nothing prints a kind, and the proof of 82 arms would be a third of the crate's check.
+#[derive(Clone, Copy, PartialEq, Eq)]
 pub enum Kind {
     Call,
     Ldbu,
@@ -89,172 +92,157 @@ pub enum Kind {
     Sub,
     Srai,
     Sra,
-    // a word outside the list
-    Outside,
 }
 
-// The kind of each OP; 3A goes by OPX.
-const OP: [Kind; 64] = [
-    Kind::Call,
-    Kind::Outside,
-    Kind::Outside,
-    Kind::Ldbu,
-    Kind::Addi,
-    Kind::Stb,
-    Kind::Br,
-    Kind::Ldb,
-    Kind::Cmpgei,
-    Kind::Outside,
-    Kind::Outside,
-    Kind::Ldhu,
-    Kind::Andi,
-    Kind::Sth,
-    Kind::Bge,
-    Kind::Ldh,
-    Kind::Cmplti,
-    Kind::Outside,
-    Kind::Outside,
-    Kind::Outside,
-    Kind::Ori,
-    Kind::Stw,
-    Kind::Blt,
-    Kind::Ldw,
-    Kind::Cmpnei,
-    Kind::Outside,
-    Kind::Outside,
-    Kind::Outside,
-    Kind::Xori,
-    Kind::Outside,
-    Kind::Bne,
-    Kind::Outside,
-    Kind::Cmpeqi,
-    Kind::Outside,
-    Kind::Outside,
-    Kind::Ldbuio,
-    Kind::Muli,
-    Kind::Stbio,
-    Kind::Beq,
-    Kind::Ldbio,
-    Kind::Cmpgeui,
-    Kind::Outside,
-    Kind::Outside,
-    Kind::Ldhuio,
-    Kind::Andhi,
-    Kind::Sthio,
-    Kind::Bgeu,
-    Kind::Ldhio,
-    Kind::Cmpltui,
-    Kind::Outside,
-    Kind::Custom,
-    Kind::Initd,
-    Kind::Orhi,
-    Kind::Stwio,
-    Kind::Bltu,
-    Kind::Ldwio,
-    Kind::Outside,
-    Kind::Outside,
-    Kind::Outside,
-    Kind::Flushd,
-    Kind::Xorhi,
-    Kind::Outside,
-    Kind::Outside,
-    Kind::Outside,
+// The kind of each OP; 3A goes by OPX. Both tables are references: an array would be built on the stack at each look-up.
+const OP: &[Option<Kind>; 64] = &[
+    Some(Call),
+    None,
+    None,
+    Some(Ldbu),
+    Some(Addi),
+    Some(Stb),
+    Some(Br),
+    Some(Ldb),
+    Some(Cmpgei),
+    None,
+    None,
+    Some(Ldhu),
+    Some(Andi),
+    Some(Sth),
+    Some(Bge),
+    Some(Ldh),
+    Some(Cmplti),
+    None,
+    None,
+    None,
+    Some(Ori),
+    Some(Stw),
+    Some(Blt),
+    Some(Ldw),
+    Some(Cmpnei),
+    None,
+    None,
+    None,
+    Some(Xori),
+    None,
+    Some(Bne),
+    None,
+    Some(Cmpeqi),
+    None,
+    None,
+    Some(Ldbuio),
+    Some(Muli),
+    Some(Stbio),
+    Some(Beq),
+    Some(Ldbio),
+    Some(Cmpgeui),
+    None,
+    None,
+    Some(Ldhuio),
+    Some(Andhi),
+    Some(Sthio),
+    Some(Bgeu),
+    Some(Ldhio),
+    Some(Cmpltui),
+    None,
+    Some(Custom),
+    Some(Initd),
+    Some(Orhi),
+    Some(Stwio),
+    Some(Bltu),
+    Some(Ldwio),
+    None,
+    None,
+    None,
+    Some(Flushd),
+    Some(Xorhi),
+    None,
+    None,
+    None,
 ];
 
 // The kind of each OPX.
-const OPX: [Kind; 64] = [
-    Kind::Outside,
-    Kind::Eret,
-    Kind::Roli,
-    Kind::Rol,
-    Kind::Flushp,
-    Kind::Ret,
-    Kind::Nor,
-    Kind::Mulxuu,
-    Kind::Cmpge,
-    Kind::Bret,
-    Kind::Outside,
-    Kind::Ror,
-    Kind::Flushi,
-    Kind::Jmp,
-    Kind::And,
-    Kind::Outside,
-    Kind::Cmplt,
-    Kind::Outside,
-    Kind::Slli,
-    Kind::Sll,
-    Kind::Outside,
-    Kind::Outside,
-    Kind::Or,
-    Kind::Mulxsu,
-    Kind::Cmpne,
-    Kind::Outside,
-    Kind::Srli,
-    Kind::Srl,
-    Kind::Nextpc,
-    Kind::Callr,
-    Kind::Xor,
-    Kind::Mulxss,
-    Kind::Cmpeq,
-    Kind::Outside,
-    Kind::Outside,
-    Kind::Outside,
-    Kind::Divu,
-    Kind::Div,
-    Kind::Rdctl,
-    Kind::Mul,
-    Kind::Cmpgeu,
-    Kind::Initi,
-    Kind::Outside,
-    Kind::Outside,
-    Kind::Outside,
-    Kind::Trap,
-    Kind::Wrctl,
-    Kind::Outside,
-    Kind::Cmpltu,
-    Kind::Add,
-    Kind::Outside,
-    Kind::Outside,
-    Kind::Break,
-    Kind::Outside,
-    Kind::Sync,
-    Kind::Outside,
-    Kind::Outside,
-    Kind::Sub,
-    Kind::Srai,
-    Kind::Sra,
-    Kind::Outside,
-    Kind::Outside,
-    Kind::Outside,
-    Kind::Outside,
+const OPX: &[Option<Kind>; 64] = &[
+    None,
+    Some(Eret),
+    Some(Roli),
+    Some(Rol),
+    Some(Flushp),
+    Some(Ret),
+    Some(Nor),
+    Some(Mulxuu),
+    Some(Cmpge),
+    Some(Bret),
+    None,
+    Some(Ror),
+    Some(Flushi),
+    Some(Jmp),
+    Some(And),
+    None,
+    Some(Cmplt),
+    None,
+    Some(Slli),
+    Some(Sll),
+    None,
+    None,
+    Some(Or),
+    Some(Mulxsu),
+    Some(Cmpne),
+    None,
+    Some(Srli),
+    Some(Srl),
+    Some(Nextpc),
+    Some(Callr),
+    Some(Xor),
+    Some(Mulxss),
+    Some(Cmpeq),
+    None,
+    None,
+    None,
+    Some(Divu),
+    Some(Div),
+    Some(Rdctl),
+    Some(Mul),
+    Some(Cmpgeu),
+    Some(Initi),
+    None,
+    None,
+    None,
+    Some(Trap),
+    Some(Wrctl),
+    None,
+    Some(Cmpltu),
+    Some(Add),
+    None,
+    None,
+    Some(Break),
+    None,
+    Some(Sync),
+    None,
+    None,
+    Some(Sub),
+    Some(Srai),
+    Some(Sra),
+    None,
+    None,
+    None,
+    None,
 ];
 
-fn op_kind(n: usize) -> Kind
-    requires { n < 64 }
-    ensures { result ≡ op_kind n }
-{
-    OP[n]
-}
-
-fn opx_kind(n: usize) -> Kind
-    requires { n < 64 }
-    ensures { result ≡ opx_kind n }
-{
-    OPX[n]
-}
-
 #[tactic(auto, using(crate::proofs::Choosing::by_opx, crate::proofs::Choosing::by_op))]
-pub fn decode(word: u32) -> Kind
+pub fn decode(word: u32) -> Option<Kind>
     ensures { result ≡ kind_of word }
 {
     let op = word % 64;
     if op == 0x3a {
-        return opx_kind((word / 0x800 % 64) as usize);
+        OPX[(word / 0x800 % 64) as usize]
+    } else {
+        OP[op as usize]
     }
-    op_kind(op as usize)
 }
 
-#[derive(Clone, Copy)]
+#[derive(Clone, Copy, Debug, PartialEq, Eq)]
 pub struct Fields {
     pub a: u32,
     pub b: u32,
@@ -265,16 +253,18 @@ pub struct Fields {
     pub imm26: u32,
 }
 
-pub fn split(word: u32) -> Fields
-    ensures { result ≡ fields_of word }
-{
-    Fields {
-        a: word / 0x800_0000 % 32,
-        b: word / 0x40_0000 % 32,
-        c: word / 0x2_0000 % 32,
-        imm16: word / 64 % 0x1_0000,
-        opx: word / 0x800 % 64,
-        imm5: word / 64 % 32,
-        imm26: word / 64 % 0x400_0000,
+impl From<u32> for Fields {
+    ghost from_gives = { λ word fields. fields ≡ fields_of word };
+
+    fn from(word: u32) -> Fields {
+        Fields {
+            a: word / 0x800_0000 % 32,
+            b: word / 0x40_0000 % 32,
+            c: word / 0x2_0000 % 32,
+            imm16: word / 64 % 0x1_0000,
+            opx: word / 0x800 % 64,
+            imm5: word / 64 % 32,
+            imm26: word / 64 % 0x400_0000,
+        }
     }
 }

@@ -13,6 +13,7 @@ ghost use Rattle.machine.specs.Calls.{bad_memory, bad_map, bad_address, bad_sett
 ghost use Rattle.machine.specs.Calls.{refusal_number, refused, run_of, ran, answered, started, fresh_of, edit_of, told, bad_budget, Lent};
 
 use exec::{Effect, Width};
+use isa::Fields;
 use state::{Change, Core, Reason, Regs, Settings, State};
 use std::ops::Range;
 
@@ -58,8 +59,8 @@ fn loaded(w: Width, sign: bool, v: u32) -> u32
     ensures { result ≡ loaded_of w sign v }
 {
     match w {
-        Width::Byte => word::choose(sign, word::extend_byte(v), v),
-        Width::Half => word::choose(sign, word::extend_half(v), v),
+        Width::Byte => word::choose(sign, word::extend::<8>(v), v),
+        Width::Half => word::choose(sign, word::extend::<16>(v), v),
         Width::Word => v,
     }
 }
@@ -78,45 +79,49 @@ fn within(len: usize, a: usize, n: usize, crooked: Reason, past: Reason) -> Resu
     Ok(())
 }
 
-// The number in the bytes of width w at a, and their marks.
+// The number in the N bytes at a, and their marks.
+fn take_bytes<const N: usize>(mem: &[u8], read: &mut [u8], written: &mut [u8], a: usize) -> u32
+    requires width { N ≤ 4 }
+    requires within { a + N ≤ length mem.now }
+    requires room { Room read.old written.old (a + N) }
+    ensures { (result ≡ number mem.now a N) × (pair read.new written.new ≡ mark (each reads a N) (pair read.old written.old)) }
+{
+    maps::read::<N>(read, written, a);
+    memory::load::<N>(mem, a)
+}
+
+// The same by the width.
 fn take(mem: &[u8], read: &mut [u8], written: &mut [u8], a: usize, w: Width) -> u32
     requires { (a + bytes w ≤ length mem.now) × Room read.old written.old (a + bytes w) }
     ensures { (result ≡ number mem.now a (bytes w)) × (pair read.new written.new ≡ mark (each reads a (bytes w)) (pair read.old written.old)) }
 {
     match w {
-        Width::Byte => {
-            maps::read1(read, written, a);
-            memory::load1(mem, a)
-        }
-        Width::Half => {
-            maps::read2(read, written, a);
-            memory::load2(mem, a)
-        }
-        Width::Word => {
-            maps::read4(read, written, a);
-            memory::load4(mem, a)
-        }
+        Width::Byte => take_bytes::<1>(mem, read, written, a),
+        Width::Half => take_bytes::<2>(mem, read, written, a),
+        Width::Word => take_bytes::<4>(mem, read, written, a),
     }
 }
 
-// The number v into the bytes of width w at a, and their marks.
+// The number v into the N bytes at a, and their marks.
+fn give_bytes<const N: usize>(mem: &mut [u8], read: &mut [u8], written: &mut [u8], a: usize, v: u32)
+    requires width { N ≤ 4 }
+    requires within { a + N ≤ length mem.old }
+    requires room { Room read.old written.old (a + N) }
+    ensures { (mem.new ≡ put mem.old a N v) × (pair read.new written.new ≡ mark (each stores a N) (pair read.old written.old)) }
+{
+    maps::store::<N>(read, written, a);
+    memory::store::<N>(mem, a, v);
+}
+
+// The same by the width.
 fn give(mem: &mut [u8], read: &mut [u8], written: &mut [u8], a: usize, w: Width, v: u32)
     requires { (a + bytes w ≤ length mem.old) × Room read.old written.old (a + bytes w) }
     ensures { (mem.new ≡ put mem.old a (bytes w) v) × (pair read.new written.new ≡ mark (each stores a (bytes w)) (pair read.old written.old)) }
 {
     match w {
-        Width::Byte => {
-            maps::store1(read, written, a);
-            memory::store1(mem, a, v);
-        }
-        Width::Half => {
-            maps::store2(read, written, a);
-            memory::store2(mem, a, v);
-        }
-        Width::Word => {
-            maps::store4(read, written, a);
-            memory::store4(mem, a, v);
-        }
+        Width::Byte => give_bytes::<1>(mem, read, written, a, v),
+        Width::Half => give_bytes::<2>(mem, read, written, a, v),
+        Width::Word => give_bytes::<4>(mem, read, written, a, v),
     }
 }
 
@@ -198,10 +203,9 @@ fn finish(
 fn executes(regs: &Regs, s: Settings, c: Core, w: u32) -> Effect
     ensures { result ≡ executes_of s regs.now.r c w }
 {
-    let f = isa::split(w);
-    let k = isa::decode(w);
+    let f = Fields::from(w);
     exec::exec(
-        k,
+        isa::decode(w),
         f,
         regs.get(f.a),
         regs.get(f.b),
@@ -374,7 +378,7 @@ pub fn fresh(
     fresh_refusal(mem.len(), read.len(), written.len(), s)?;
     maps::wipe(read);
     maps::wipe(written);
-    *state = state::fresh(s.reset);
+    *state = State::fresh(s.reset);
     Ok(())
 }
 
@@ -399,5 +403,5 @@ pub fn edit(len: usize, read: &[u8], range: Range<usize>) -> Result<bool, Refusa
     ensures { told result ≡ edit_of len read.now range.start range.end }
 {
     edit_refusal(len, read.len(), &range)?;
-    Ok(maps::none(read, range.start, range.end))
+    Ok(maps::none(read, range))
 }

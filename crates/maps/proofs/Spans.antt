@@ -3,7 +3,7 @@
 use mathlib.Core.Path.{◌≡◌, sym, ap, ◌∙◌}
 use mathlib.Core.Logic.{◌≢◌, inl, inr}
 use mathlib.Core.List.{List, ◌∷◌, ◌++◌}
-use Prim.Native.Nat.{ℕ, zero, suc, ◌+◌, ◌-◌, ◌*◌, ◌/◌, ◌%◌, ◌^◌, ◌<◌}
+use Prim.Native.Nat.{ℕ, zero, suc, ◌+◌, ◌-◌, ◌*◌, ◌/◌, ◌%◌, ◌^◌, ◌<◌, ◌≤◌}
 use native.Mathlib.Nat.{zero-add, add-zero, suc-add, add-suc, one-mul, mod-eq_of_lt}
 use native.Mathlib.Omega.{arith}
 use lib.Bits.{bit_or, bit_and, and_high, or_add_and}
@@ -38,6 +38,13 @@ each_parts f (suc i) w k = rw (suc-add i w, add-suc k i) (ap (λ l. f k ∷ l) (
 -- to mark i + w bytes is to mark i of them, then w
 pub mark_parts : (f : ℕ → Access) (i w k : ℕ) (p : Maps) → mark (each f k (i + w)) p ≡ mark (each f (k + i) w) (mark (each f k i) p)
 mark_parts f i w k p = ap (λ l. mark l p) (each_parts f i w k) ∙ mark-append (each f k i) (each f (k + i) w) p
+
+-- and a loop over the bytes marks one more
+pub mark_more : (f : ℕ → Access) (k i : ℕ) (p q r : Maps) → q ≡ mark (each f k (i - k)) p → r ≡ mark (each f i 1) q → k ≤ i → r ≡ mark (each f k (i + 1 - k)) p
+mark_more f k i p q r e s h =
+    let n : i + 1 - k ≡ (i - k) + 1 = omega arith in
+    let j : k + (i - k) ≡ i = omega arith in
+    rw (n, mark_parts f (i - k) 1 k p, j, ← e) s
 
 -- one byte that is read, by its written bit
 module _ (first written : List ℕ) (k : ℕ) where

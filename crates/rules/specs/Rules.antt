@@ -1,4 +1,4 @@
--- What a step may do to the state, in the words of document 01. It names no memory and no map.
+-- What a step may do to the state, in the words of the paper. It names no memory and no map.
 -- Assumes nothing.
 use Rattle.std.specs.Prelude.{Bool, not, ◌&&◌, ◌||◌, cond, List, ℕ, ◌%◌, eqb, ltb}
 use Rattle.std.specs.Int.Bits.{bit_and}

@@ -90,27 +90,24 @@ pub fn bret(regs: &Regs, c: Core) -> Change
 pub fn control(s: Settings, lines: u32, c: Core, n: u32) -> u32
     ensures { result ≡ control_of s lines c n }
 {
-    let waiting = word::choose(n == 4, pending(lines, c), s.cpuid);
-    let enabled = word::choose(n == 3, c.ienable, waiting);
-    let broken = word::choose(n == 2, c.bstatus, enabled);
-    let raised = word::choose(n == 1, c.estatus, broken);
-    word::choose(n == 0, c.status, raised)
+    match n {
+        0 => c.status,
+        1 => c.estatus,
+        2 => c.bstatus,
+        3 => c.ienable,
+        4 => pending(lines, c),
+        _ => s.cpuid,
+    }
 }
 
 pub fn set_control(c: Core, n: u32, v: u32) -> Core
     ensures { result ≡ set_control c n v }
 {
-    if n == 0 {
-        return c.with_status(v % 2);
+    match n {
+        0 => c.with_status(v % 2),
+        1 => c.with_estatus(v % 2),
+        2 => c.with_bstatus(v % 2),
+        3 => c.with_ienable(v),
+        _ => c,
     }
-    if n == 1 {
-        return c.with_estatus(v % 2);
-    }
-    if n == 2 {
-        return c.with_bstatus(v % 2);
-    }
-    if n == 3 {
-        return c.with_ienable(v);
-    }
-    c
 }

@@ -8,7 +8,7 @@ use Rattle.state.specs.declared.Change.{Change}
 use Rattle.state.specs.declared.Reason.{Reason}
 use Rattle.state.specs.declared.Reason.TheVariants.{Spent, Misaligned, Past, Outside, Custom, Quotient, DataMisaligned, DataPast, Unsound}
 
--- the paper's number of a reason
+-- why a run ended, as a number
 abbrev pub reason_number : Reason → ℕ
 reason_number Spent = 0
 reason_number Misaligned = 10

@@ -1,4 +1,3 @@
-pub mod Difference
 pub mod Signs
 pub mod Turns
 pub mod Meaning

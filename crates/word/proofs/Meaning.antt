@@ -1,12 +1,11 @@
 -- What the signed results stand for: no integer is lost when a register keeps only its lowest 32 bits.
 -- Assumes nothing.
-use Rattle.std.proofs.Common.{◌≡◌, ℕ, zero, suc, ◌-◌, ◌*◌, ◌/◌, ◌%◌, ◌^◌, ◌<◌, ◌≤◌, Bool, true, false, ◌&&◌, eqb, ℤ, pos, negsuc, neg_ℤ, sym, refl, ap, ◌∙◌, lt_of_le_of_lt, div-le_self, div-one, arith, eq-eqb, ne_eqb}
+use Rattle.std.proofs.Common.{◌≡◌, ℕ, zero, suc, ◌-◌, ◌*◌, ◌/◌, ◌%◌, ◌^◌, ◌<◌, ◌≤◌, Bool, true, false, ◌&&◌, eqb, ℤ, pos, negsuc, neg_ℤ, sym, refl, ap, ◌∙◌, lt_of_le_of_lt, div-le_self, div-one, arith, eq-eqb, ne_eqb, Ok}
 use mathlib.Core.Logic.{by_cases}
 use native.Mathlib.Nat.{div-lt_self}
 use native.Mathlib.Decide.{ℕ_discrete, dec_lt}
 use lib.IntN.{pos-ne-negsuc}
 use lib.Signed.{mag, mag_shr, quot_z, shr_z}
-use Rattle.word.specs.declared.Quotient.TheVariants.{Value, ByZero, TooLarge}
 use Rattle.word.specs.Integer.{signed_bits, signed, word_of}
 use Rattle.word.specs.Word.{extend_of, sra_of, div_of}
 use Rattle.word.proofs.Signs.{signed_low, signed_high}
@@ -58,25 +57,19 @@ signed_word a n fits e h = by_cases (dec_lt a (2 ^ 31))
 
 module _ (a b q : ℕ) (fa : a < 2 ^ 32) (fb : b < 2 ^ 32) where
   -- a quotient that is given is the integers' own, rounded toward zero
-  pub div_stands_for : div_of a b ≡ Value q → signed q ≡ quot_z (signed a) (signed b)
+  pub div_stands_for : div_of a b ≡ Ok q → signed q ≡ quot_z (signed a) (signed b)
   unfolding div_of
   div_stands_for e = by_cases (ℕ_discrete b 0) by_zero (λ f. divided f (eqb a 0x8000_0000 && eqb b 0xffff_ffff) refl)
     where
       by_zero : b ≡ 0 → signed q ≡ quot_z (signed a) (signed b)
-      by_zero z =
-          let h : ByZero ≡ Value q = rw (eq-eqb b 0 z) at e in
-          let n : ◌≡◌ {A = ℕ} 0 1 = cc in absurd (omega arith)
+      by_zero z = let h = rw (eq-eqb b 0 z) at e in absurd (cc)
 
       apart : (eqb a 0x8000_0000 && eqb b 0xffff_ffff) ≡ false → signed a ≡ negsuc (2 ^ 31 - 1) → signed b ≡ negsuc 0 → ⊥
-      apart t x y =
-          let h : true ≡ false = rw (eq-eqb a 0x8000_0000 (signed_word a (2 ^ 31 - 1) fa x (omega arith)), eq-eqb b 0xffff_ffff (signed_word b 0 fb y (omega arith))) at t in
-          let n : ◌≡◌ {A = ℕ} 0 1 = cc in omega arith
+      apart t x y = let h = rw (eq-eqb a 0x8000_0000 (signed_word a (2 ^ 31 - 1) fa x (omega arith)), eq-eqb b 0xffff_ffff (signed_word b 0 fb y (omega arith))) at t in cc
 
       divided : (b ≡ 0 → ⊥) → (t : Bool) → (eqb a 0x8000_0000 && eqb b 0xffff_ffff) ≡ t → signed q ≡ quot_z (signed a) (signed b)
-      divided f true t =
-          let h : TooLarge ≡ Value q = rw (ne_eqb b 0 f, t) at e in
-          let n : ◌≡◌ {A = ℕ} 0 1 = cc in absurd (omega arith)
+      divided f true t = let h = rw (ne_eqb b 0 f, t) at e in absurd (cc)
       divided f false t =
-          let h : Value (word_of (quot_z (signed a) (signed b))) ≡ Value q = rw (ne_eqb b 0 f, t) at e in
+          let h = rw (ne_eqb b 0 f, t) at e in
           let r : word_of (quot_z (signed a) (signed b)) ≡ q = cc in
           ap signed (sym r) ∙ word_stands_for (quot_z (signed a) (signed b)) (quotient_range (signed a) (signed b) (signed_range 32 a refl fa) (apart t))

@@ -1,11 +1,11 @@
 -- What each operation gives, on words: natural numbers below 2 ^ 32. One definition for an Operation line of the handbook's chapter 20.
 -- Assumes nothing.
-use Rattle.std.specs.Prelude.{ℕ, ◌+◌, ◌-◌, ◌*◌, ◌/◌, ◌%◌, ◌^◌, Bool, cond, ◌&&◌, ◌*ℤ◌, ◌==◌, bit_and, bit_or, bit_xor, int_div, int_lt, nat_lt}
+use Rattle.std.specs.Prelude.{ℕ, ◌+◌, ◌-◌, ◌*◌, ◌/◌, ◌%◌, ◌^◌, Bool, cond, Result, Ok, Err, ◌&&◌, ◌*ℤ◌, ◌==◌, bit_and, bit_or, bit_xor, int_div, int_lt, nat_lt}
 use Rattle.std.proofs.Math.IntN.{sub_ℕ}
 use Rattle.std.specs.Int.Signed.{shr_z}
 use Rattle.word.specs.Integer.{signed_bits, signed, unsigned, word_of, upper_of}
-use Rattle.word.specs.declared.Quotient.{Quotient}
-use Rattle.word.specs.declared.Quotient.TheVariants.{Value, ByZero, TooLarge}
+use Rattle.word.specs.declared.Undefined.{Undefined}
+use Rattle.word.specs.declared.Undefined.TheVariants.{ByZero, TooLarge}
 
 -- ---- sums and differences
 
@@ -29,7 +29,7 @@ high_of n = n % 2 ^ 16 * 2 ^ 16
 
 -- ---- comparisons
 
-abbrev pub choose_of : Bool → ℕ → ℕ → ℕ
+abbrev pub choose_of : {A : Type 0} → Bool → A → A → A
 choose_of c x y = cond c x y
 
 -- (signed) rA < (signed) rB
@@ -65,13 +65,13 @@ mulxsu_of a b = upper_of (signed a *ℤ unsigned b)
 -- ---- quotients
 
 -- rA ÷ rB as unsigned integers
-unfoldable pub divu_of : ℕ → ℕ → Quotient
-divu_of a b = cond (b == 0) ByZero (Value (a / b))
+unfoldable pub divu_of : ℕ → ℕ → Result ℕ Undefined
+divu_of a b = cond (b == 0) (Err ByZero) (Ok (a / b))
 
 -- rA ÷ rB as signed integers, toward zero. By zero there is none, and 2 ^ 31, of −2 ^ 31 ÷ −1, is no word
-unfoldable pub div_of : ℕ → ℕ → Quotient
+unfoldable pub div_of : ℕ → ℕ → Result ℕ Undefined
 div_of a b =
-    cond (b == 0) ByZero (cond (a == 0x8000_0000 && b == 0xffff_ffff) TooLarge (Value (word_of (int_div (signed a) (signed b)))))
+    cond (b == 0) (Err ByZero) (cond (a == 0x8000_0000 && b == 0xffff_ffff) (Err TooLarge) (Ok (word_of (int_div (signed a) (signed b)))))
 
 -- ---- shifts and rotations: by the lowest five bits of n
 

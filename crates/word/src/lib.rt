@@ -1,18 +1,15 @@
 // Arithmetic of 32-bit words. Every function is total, and its contract is one equation to a definition of specs/.
 #![tactic(auto)]
 
-ghost use Rattle.std.specs.Prelude.{◌≡◌, ◌*◌, ◌^◌, if◌then◌else◌, unsigned_abs};
-ghost use Rattle.std.proofs.Math.IntN.{sub_ℕ};
-ghost use Rattle.word.specs.Integer.{signed, modulo, word_of, upper_of};
-ghost use Rattle.word.specs.Sign.{negative, with_sign};
+ghost use Rattle.std.specs.Prelude.{◌≡◌, ◌<◌, ◌≤◌};
+ghost use Rattle.word.specs.Integer.{upper_of};
 ghost use Rattle.word.specs.Word.{add_of, sub_of, extend_of, high_of, choose_of, less_signed_of, less_of, flag_of};
 ghost use Rattle.word.specs.Word.{mul_of, mulxuu_of, mulxss_of, mulxsu_of, divu_of, div_of};
 ghost use Rattle.word.specs.Word.{sll_of, srl_of, sra_of, rol_of, ror_of, and_of, or_of, xor_of, nor_of};
 
-// What a division gives. That the last two stop a run is for the step to say.
-#[derive(Clone, Copy)]
-pub enum Quotient {
-    Value(u32),
+// Why a division gives no quotient: the handbook calls its result undefined. That it stops a run is for the step to say.
+#[derive(Clone, Copy, Debug, PartialEq, Eq)]
+pub enum Undefined {
     ByZero,
     // 80000000 by FFFFFFFF, as signed integers
     TooLarge,
@@ -21,61 +18,46 @@ pub enum Quotient {
 pub fn add(a: u32, b: u32) -> u32
     ensures { result ≡ add_of a b }
 {
-    std::num::wrapping_add_u32(a, b)
+    a.wrapping_add(b)
 }
 
+#[tactic(auto, unfolding(crate::specs::Word::sub_of))]
 pub fn sub(a: u32, b: u32) -> u32
     ensures { result ≡ sub_of a b }
 {
-    std::num::wrapping_sub_u32(a, b)
+    a.wrapping_sub(b)
 }
 
-fn sub_long(a: u64, b: u64) -> u64
-    ensures { result ≡ modulo (sub_ℕ a b) (2 ^ 64) }
-{
-    std::num::wrapping_sub_u64(a, b)
-}
-
-// One of two words, without a branch in the caller's proof.
-pub fn choose(c: bool, x: u32, y: u32) -> u32
+// One of two values, without a branch in the caller's proof.
+pub fn choose<T: Drop>(c: bool, x: T, y: T) -> T
     ensures { result ≡ choose_of c x y }
 {
     if c { x } else { y }
 }
 
-fn choose_long(c: bool, x: u64, y: u64) -> u64
-    ensures { result ≡ (if c then x else y) }
+// The lowest BITS bits with their sign: they go to the top, and come back with copies of the sign bit.
+#[tactic(auto, using(crate::proofs::Signs::casts, crate::proofs::Signs::extended), unfolding(crate::specs::Word::extend_of))]
+pub fn extend<const BITS: u32>(n: u32) -> u32
+    requires some { 0 < BITS }
+    requires word { BITS ≤ 32 }
+    ensures { result ≡ extend_of BITS n }
 {
-    if c { x } else { y }
-}
-
-// The lowest 8 bits with their sign.
-pub fn extend_byte(n: u32) -> u32
-    ensures { result ≡ extend_of 8 n }
-{
-    let x = n % 0x100;
-    sub(x, x / 0x80 * 0x100)
-}
-
-// The lowest 16 bits with their sign.
-pub fn extend_half(n: u32) -> u32
-    ensures { result ≡ extend_of 16 n }
-{
-    let x = n % 0x1_0000;
-    sub(x, x / 0x8000 * 0x1_0000)
+    let k = u32::BITS - BITS;
+    ((n << k).cast_signed() >> k).cast_unsigned()
 }
 
 // The lowest 16 bits as the upper half.
 pub fn high(n: u32) -> u32
     ensures { result ≡ high_of n }
 {
-    n % 0x1_0000 * 0x1_0000
+    n << 16
 }
 
+#[tactic(auto, using(crate::proofs::Signs::casts), unfolding(crate::specs::Word::less_signed_of))]
 pub fn less_signed(a: u32, b: u32) -> bool
     ensures { result ≡ less_signed_of a b }
 {
-    add(a, 0x8000_0000) < add(b, 0x8000_0000)
+    a.cast_signed() < b.cast_signed()
 }
 
 pub fn less(a: u32, b: u32) -> bool
@@ -87,117 +69,95 @@ pub fn less(a: u32, b: u32) -> bool
 pub fn flag(c: bool) -> u32
     ensures { result ≡ flag_of c }
 {
-    choose(c, 1, 0)
+    u32::from(c)
 }
 
-fn is_negative(a: u32) -> bool
-    ensures { result ≡ negative (signed a) }
+// Bits 63..32.
+fn upper(z: i64) -> u32
+    ensures { result ≡ upper_of z }
 {
-    0x8000_0000 <= a
-}
-
-fn with_sign(s: bool, n: u32) -> u32
-    ensures { result ≡ word_of (with_sign s n) }
-{
-    choose(s, sub(0, n), n)
-}
-
-fn magnitude(a: u32) -> u32
-    ensures { result ≡ unsigned_abs (signed a) }
-{
-    with_sign(is_negative(a), a)
-}
-
-fn product(a: u32, b: u32) -> u64
-    ensures { result ≡ a * b }
-{
-    (a as u64) * (b as u64)
-}
-
-fn upper(s: bool, n: u64) -> u32
-    ensures { result ≡ upper_of (with_sign s n) }
-{
-    (choose_long(s, sub_long(0, n), n) / 0x1_0000_0000) as u32
+    (z.cast_unsigned() >> 32) as u32
 }
 
 pub fn mul(a: u32, b: u32) -> u32
     ensures { result ≡ mul_of a b }
 {
-    (product(a, b) % 0x1_0000_0000) as u32
+    a.wrapping_mul(b)
 }
 
+// As u64: the product of two words without signs may pass i64::MAX.
+#[tactic(auto, unfolding(crate::specs::Word::mulxuu_of))]
 pub fn mulxuu(a: u32, b: u32) -> u32
     ensures { result ≡ mulxuu_of a b }
 {
-    upper(false, product(a, b))
+    ((u64::from(a) * u64::from(b)) >> 32) as u32
 }
 
+#[tactic(auto, using(crate::proofs::Signs::casts), unfolding(crate::specs::Word::mulxss_of))]
 pub fn mulxss(a: u32, b: u32) -> u32
     ensures { result ≡ mulxss_of a b }
 {
-    upper(
-        is_negative(a) != is_negative(b),
-        product(magnitude(a), magnitude(b)),
-    )
+    upper(i64::from(a.cast_signed()) * i64::from(b.cast_signed()))
 }
 
+#[tactic(auto, using(crate::proofs::Signs::casts), unfolding(crate::specs::Word::mulxsu_of))]
 pub fn mulxsu(a: u32, b: u32) -> u32
     ensures { result ≡ mulxsu_of a b }
 {
-    upper(is_negative(a), product(magnitude(a), b))
+    upper(i64::from(a.cast_signed()) * i64::from(b))
 }
 
-pub fn divu(a: u32, b: u32) -> Quotient
+#[tactic(auto, unfolding(crate::specs::Word::divu_of))]
+pub fn divu(a: u32, b: u32) -> Result<u32, Undefined>
     ensures { result ≡ divu_of a b }
 {
-    if b == 0 {
-        return Quotient::ByZero;
-    }
-    Quotient::Value(a / b)
+    a.checked_div(b).ok_or(Undefined::ByZero)
 }
 
-pub fn div(a: u32, b: u32) -> Quotient
+#[tactic(auto, using(crate::proofs::Signs::casts), unfolding(crate::specs::Word::div_of))]
+pub fn div(a: u32, b: u32) -> Result<u32, Undefined>
     ensures { result ≡ div_of a b }
 {
     if b == 0 {
-        return Quotient::ByZero;
+        return Err(Undefined::ByZero);
     }
-    if (a == 0x8000_0000) & (b == 0xffff_ffff) {
-        return Quotient::TooLarge;
+    match a.cast_signed().checked_div(b.cast_signed()) {
+        Some(q) => Ok(q.cast_unsigned()),
+        None => Err(Undefined::TooLarge),
     }
-    let q = magnitude(a) / magnitude(b);
-    Quotient::Value(with_sign(is_negative(a) != is_negative(b), q))
 }
 
 pub fn sll(a: u32, n: u32) -> u32
     ensures { result ≡ sll_of a n }
 {
-    a << (n % 32)
+    a.wrapping_shl(n)
 }
 
 pub fn srl(a: u32, n: u32) -> u32
     ensures { result ≡ srl_of a n }
 {
-    a >> (n % 32)
+    a.wrapping_shr(n)
 }
 
-// A negative word is turned over, shifted, and turned over again.
+#[tactic(auto, using(crate::proofs::Signs::casts), unfolding(crate::specs::Word::sra_of))]
 pub fn sra(a: u32, n: u32) -> u32
     ensures { result ≡ sra_of a n }
 {
-    choose(0x8000_0000 <= a, !srl(!a, n), srl(a, n))
+    a.cast_signed().wrapping_shr(n).cast_unsigned()
 }
 
+#[tactic(auto, using(crate::proofs::Turns::left))]
 pub fn rol(a: u32, n: u32) -> u32
     ensures { result ≡ rol_of a n }
 {
-    sll(a, n) | srl(a, 32 - n % 32)
+    a.rotate_left(n)
 }
 
+#[tactic(auto, using(crate::proofs::Turns::right))]
 pub fn ror(a: u32, n: u32) -> u32
     ensures { result ≡ ror_of a n }
 {
-    rol(a, 32 - n % 32)
+    a.rotate_right(n)
 }
 
 pub fn and(a: u32, b: u32) -> u32

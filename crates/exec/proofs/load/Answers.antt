@@ -1,6 +1,0 @@
--- `exec::load` meets its contract: the address is the sum.
--- Assumes nothing.
-use Rattle.exec.proofs.load.Goals as goal
-
-pub returns : goal.returns
-returns c = rw (c.add.ensures, c.signed.ensures)
