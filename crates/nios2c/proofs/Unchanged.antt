@@ -1,18 +1,18 @@
 -- A call that the machine refuses leaves every word and byte as it was, but for the answer.
 -- Assumes nothing.
-use mathlib.Core.Path.{◌≡◌, sym, ap, ◌∙◌}
+use mathlib.Core.Path.{◌≡◌, ap}
 use mathlib.Core.List.{List, [], ◌∷◌}
 use Prim.Native.Nat.{ℕ, suc}
 use borrow.Author.Tests.{eq-eqb}
 use lib.ListN.{length}
-use lib.Seq.{set-get_or}
 use Rattle.machine.specs.Calls.{fresh_refusal, fresh_of, run_refusal, run_of}
-use Rattle.nios2c.specs.Words.{core_of, core_words, state_of, words_of, settings_of, afresh, fresh_words, ran, run_words}
-use Rattle.nios2c.proofs.Copies.{stored}
+use Rattle.state.specs.Words.{state_of, words_of, settings_of}
+use Rattle.state.proofs.Words as state
+use Rattle.nios2c.specs.Words.{afresh, fresh_words, ran, run_words}
 
 -- the words of a state that was taken from words
 pub back : (l : List ℕ) → length l ≡ 37 → words_of (state_of l) ≡ l
-back l e = sym (stored (core_words (core_of l)) l 32 (sym e)) ∙ rw (set-get_or l 32 0, set-get_or l 33 0, set-get_or l 34 0, set-get_or l 35 0, set-get_or l 36 0)
+back = state.back
 
 module _ (read written state settings : List ℕ) (n : ℕ) (e : length state ≡ 37) (f : length settings ≡ 6) where
   pub fresh_refused : (len : ℕ) → fresh_refusal len (length read) (length written) (settings_of settings) ≡ suc n

@@ -1,44 +1,14 @@
 -- The exported calls: states and settings as words, and what each call leaves of all that it is lent.
 -- Assumes nothing.
-use Rattle.std.specs.Prelude.{Bool, not, ◌&&◌, cond, List, [], ◌∷◌, ◌++◌, ℕ, ◌+◌, eqb, length, get_or, take}
+use Rattle.std.specs.Prelude.{Bool, ◌&&◌, cond, List, [], ◌∷◌, ℕ, ◌+◌, eqb, length}
 use Rattle.maps.specs.Pair.{pair}
-use Rattle.state.specs.declared.Core.{Core}
 use Rattle.state.specs.declared.State.{State}
-use Rattle.state.specs.declared.Settings.{Settings}
+use Rattle.state.specs.Words.{state_of, words_of, settings_of}
 use Rattle.trace.specs.Maps.{Maps}
 use Rattle.trace.specs.Machine.{Answer}
-use Rattle.machine.specs.declared.Verdict.{Verdict}
-use Rattle.machine.specs.declared.Verdict.TheVariants.{Refused, Yes, No}
-use Rattle.machine.specs.Calls.{Started, fresh_of, run_of, edit_of}
+use Rattle.machine.specs.Calls.{Started, fresh_of, run_of, Verdict, Refused, Yes, No, edit_of}
 
 -- ---- words
-
--- pc, status, estatus, bstatus, ienable: words 32 to 36
-abbrev pub core_of : List ℕ → Core
-core_of l =
-    record { pc = get_or l 32 0; status = get_or l 33 0; estatus = get_or l 34 0; bstatus = get_or l 35 0; ienable = get_or l 36 0 }
-
-abbrev pub core_words : Core → List ℕ
-core_words c = c.pc ∷ c.status ∷ c.estatus ∷ c.bstatus ∷ c.ienable ∷ []
-
--- a state: r0 to r31, and then the rest
-abbrev pub state_of : List ℕ → State
-state_of l = record { regs = record { r = take 32 l }; core = core_of l }
-
-abbrev pub words_of : State → List ℕ
-words_of s = s.regs.r ++ core_words s.core
-
--- settings: any word but 0 counts as a unit that is present
-abbrev pub settings_of : List ℕ → Settings
-settings_of l =
-    record {
-      reset = get_or l 0 0;
-      exception = get_or l 1 0;
-      breaks = get_or l 2 0;
-      cpuid = get_or l 3 0;
-      multiplier = not (eqb (get_or l 4 0) 0);
-      divider = not (eqb (get_or l 5 0) 0);
-    }
 
 -- the lengths of a state's words and of settings
 abbrev pub fits : ℕ → ℕ → Bool
@@ -53,7 +23,7 @@ pub record Fresh : Type 0 where
 
 -- the machine's answer, as words; of a refused call the state is that of before
 abbrev pub fresh_given : Started → Fresh
-fresh_given x = record { number = x.result.number; maps = x.maps; state = words_of x.result.state }
+fresh_given x = record { number = x.number; maps = x.maps; state = words_of x.state }
 
 -- what the code hands back and leaves, as one value
 abbrev pub afresh : ℕ → List ℕ → List ℕ → List ℕ → Fresh
