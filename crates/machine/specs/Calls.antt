@@ -101,13 +101,17 @@ run_of m read written s S lines budget =
     unless_refused (run_refusal (length m) (length read) (length written) S s budget) s m (pair read written)
     (answer (machine S lines (length m)) budget s m (pair read written))
 
--- what the code hands back and leaves, as an answer: of the steps, and of a call
+-- what the steps hand back and leave, as an answer
 abbrev pub ran : Ran → State → List ℕ → List ℕ → List ℕ → Answer ℕ State
 ran r s m read written = record { reason = reason_number r.reason; steps = r.steps; config = s; memory = m; maps = pair read written }
 
+-- what a call hands back, by its number and its steps, and with what it leaves as an answer
+abbrev pub numbers : Result Ran Refusal → ℕ × ℕ
+numbers (Ok r) = (reason_number r.reason, r.steps)
+numbers (Err f) = (refusal_number f, 0)
+
 abbrev pub answered : Result Ran Refusal → State → List ℕ → List ℕ → List ℕ → Answer ℕ State
-answered (Ok r) s m read written = ran r s m read written
-answered (Err f) s m read written = record { reason = refusal_number f; steps = 0; config = s; memory = m; maps = pair read written }
+answered r s m read written = record { reason = (numbers r).0; steps = (numbers r).1; config = s; memory = m; maps = pair read written }
 
 -- ---- a fresh start
 

@@ -10,7 +10,7 @@ ghost use Rattle.machine.specs.Step.{bytes, loaded as loaded_of};
 ghost use Rattle.machine.specs.Step.{loads, stores as stores_of, does, executes as executes_of, attempt, machine};
 ghost use Rattle.machine.specs.Ends.{ended, after_end, attempt_end, within_of};
 ghost use Rattle.machine.specs.Calls.{bad_memory, bad_map, bad_address, bad_settings, bad_state, bad_range, fresh_refusal, run_refusal, edit_refusal};
-ghost use Rattle.machine.specs.Calls.{refusal_number, refused, run_of, ran, answered, started, fresh_of, edit_of, told, bad_budget, Lent};
+ghost use Rattle.machine.specs.Calls.{refusal_number, refused, run_of, ran, numbers, answered, started, fresh_of, edit_of, told, bad_budget, Lent};
 
 use exec::{Effect, Width};
 use isa::Fields;
@@ -40,6 +40,16 @@ impl Refusal {
         ensures { result ≡ refusal_number self }
     {
         self as u32
+    }
+}
+
+// The paper's number of a run's answer, and the steps made: of a refusal none.
+pub fn numbers(answer: Result<Ran, Refusal>) -> (u32, u32)
+    ensures { result ≡ numbers answer }
+{
+    match answer {
+        Ok(ran) => (ran.reason.number(), ran.steps),
+        Err(refusal) => (refusal.number(), 0),
     }
 }
 

@@ -1,29 +1,40 @@
 // The program: a raw image on standard input, the lines of its run on standard output.
 #![tactic(auto)]
 
-const STDIN_FILENO: i32 = 0;
+ghost use Rattle.std.specs.Prelude.{◌≤◌, length};
 
-const STDOUT_FILENO: i32 = 1;
+use report::Page;
+use std::io::{Read, Write};
 
-fn say(out: [u8; 1024], n: usize) {
-    if n <= 1024 {
-        io::write_all(STDOUT_FILENO, &out[..n]);
+// Reads until buf is full, the input ends or a read fails, and says how many bytes there are.
+fn read_full<R: Read>(input: &mut R, buf: &mut [u8]) -> usize
+    ensures { result ≤ length buf.new }
+{
+    let mut done = 0;
+    while done < buf.len() {
+        match input.read(&mut buf[done..]) {
+            Ok(0) | Err(_) => break,
+            Ok(n) => done += n,
+        }
     }
+    done
 }
 
-// The buffers have room for the largest image, of 32,768 bytes, and its maps; a longer one is refused.
-fn main() {
-    let mut bytes = io::large_buffer();
-    let mut read = io::buffer();
-    let mut written = io::buffer();
-    let mut out = [0u8; 1024];
-    let n = io::read_full(STDIN_FILENO, &mut bytes);
+// The lines of the image on the input. The buffers have room for the largest, of 32,768 bytes, and its maps; a longer one is refused.
+fn answer<R: Read>(input: &mut R) -> Page {
+    let mut bytes = [0u8; 65536];
+    let mut read = [0u8; 4096];
+    let mut written = [0u8; 4096];
+    let n = read_full(input, &mut bytes);
     if 32768 < n {
-        let k = report::refusal(&mut out, 1);
-        say(out, k);
-        return;
+        return report::refusal(1);
     }
     let m = n / 8;
-    let k = image::lines(&mut bytes[..n], &mut read[..m], &mut written[..m], &mut out);
-    say(out, k);
+    image::lines(&mut bytes[..n], &mut read[..m], &mut written[..m])
+}
+
+// A write that fails ends the output, and changes nothing else.
+fn main(rt: HostRuntime) {
+    let page = answer(&mut rt.stdin());
+    let _ = rt.stdout().write_all(page.as_bytes());
 }

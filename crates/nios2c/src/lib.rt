@@ -79,10 +79,8 @@ pub extern "C" fn nios2_run(
     };
     let end = machine::run(mem, read, written, &mut held, s, lines, budget);
     state.copy_from_slice(&StateWords::from(held));
-    match end {
-        Ok(ran) => answer.copy_from_slice(&[ran.reason.number(), ran.steps]),
-        Err(refusal) => answer.copy_from_slice(&[refusal.number(), 0]),
-    }
+    let (number, steps) = machine::numbers(end);
+    answer.copy_from_slice(&[number, steps]);
 }
 
 // Whether an edit of the bytes start..end leaves the run as it is: 1 yes, 0 no, or 256 and a refusal's number.

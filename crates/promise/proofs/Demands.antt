@@ -8,7 +8,6 @@ use Prim.Native.Nat.{ℕ, suc, ◌+◌, ◌%◌, ◌≤◌, ◌<◌, ◌-◌, �
 use borrow.Author.Tests.{eq-eqb, le-leb}
 use lib.ListN.{length, get_or, replicate, length-replicate}
 use Rattle.isa.specs.Words.{kind_of}
-use Rattle.isa.specs.declared.Kind.TheVariants.{Outside}
 use Rattle.maps.specs.Pair.{pair}
 use Rattle.state.specs.declared.State.{State}
 use Rattle.state.specs.declared.Settings.{Settings}
@@ -30,7 +29,7 @@ use Rattle.trace.proofs.Theorems as theory
 use Rattle.machine.specs.declared.Ran.{Ran}
 use Rattle.machine.specs.declared.Refusal.{Refusal}
 use Rattle.promise.specs.Calls.{cleared_run, Differs, Sound, Given}
-use Rattle.std.proofs.Common.{Result, Ok, Err}
+use Rattle.std.proofs.Common.{None, Result}
 use Rattle.promise.proofs.Numbers.{in_order}
 use Rattle.promise.proofs.Fair.{other, kept, accepted_sound}
 use Rattle.promise.proofs.Edits.{unless_survives, none_in, yes_none}
@@ -72,7 +71,7 @@ module _ (m read written : List ℕ) (s : State) (S : Settings) (lines budget : 
   -- the rules before the fetch let the word through, and the list does not name it: the run stops with 12 before any effect
   pub outside_stops : run_refusal (length m) (length read) (length written) S s (suc budget) ≡ 0
       → above s.core ≡ false → interrupted lines s.core ≡ false → s.core.pc % 4 ≡ 0 → s.core.pc + 4 ≤ length m
-      → kind_of (number m s.core.pc 4) ≡ Outside
+      → kind_of (number m s.core.pc 4) ≡ None
       → run_of m read written s S lines (suc budget)
       ≡ record { reason = 12; steps = 0; config = s; memory = m; maps = mark (fetched s.core.pc) (pair read written) }
   unfolding attempt
@@ -139,11 +138,6 @@ module _ (m read written : List ℕ) (s : State) (S : Settings) (lines budget : 
 
 -- ==== DEMAND 3
 
--- the maps that a call leaves
-maps_of : (r : Result Ran Refusal) (s : State) (m read written : List ℕ) → (answered r s m read written).maps ≡ pair read written
-maps_of (Ok r) s m read written = refl
-maps_of (Err f) s m read written = refl
-
 module _ (n : ℕ) (s : State) (S : Settings) (lines budget : ℕ) (m : List ℕ) where
   refusal : ℕ → ℕ
   refusal len = run_refusal len (length (replicate {A = ℕ} n 0)) (length (replicate {A = ℕ} n 0)) S s budget
@@ -173,7 +167,7 @@ module _ (n : ℕ) (s : State) (S : Settings) (lines budget : ℕ) (m : List ℕ
       → answered r s₁ m₁ read₁ written₁ ≡ cleared_run n s S lines budget m → answered r' s₂ m₂ read₂ written₂ ≡ cleared_run n s S lines budget m'
       → Edit (pair read₁ written₁) m m' → Survives m m' (answered r s₁ m₁ read₁ written₁) (answered r' s₂ m₂ read₂ written₂)
   survives_call r r' s₁ s₂ m' m₁ m₂ read₁ read₂ written₁ written₂ p q e =
-      rw (p, q) (survives m' (subst (λ (x : Answer ℕ State). Edit x.maps m m') p (rw (maps_of r s₁ m₁ read₁ written₁) e)))
+      rw (p, q) (survives m' (subst (λ (x : Answer ℕ State). Edit x.maps m m') p e))
 
   -- where the edit question says yes, a memory that differs inside the range only gives the same run
   pub yes_survives : (start end : ℕ) (m' : List ℕ) → edit_of (length m) (cleared_run n s S lines budget m).maps.read_first start end ≡ Yes

@@ -1,5 +1,4 @@
 pub mod Bits
 pub mod Digits
 pub mod Example
-pub mod Turns
-pub mod Writing
+pub mod Room

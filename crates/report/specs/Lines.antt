@@ -1,6 +1,6 @@
 -- The lines that the program prints, as lists of ASCII codes, and the count of set bits that the last of them shows.
 -- Assumes nothing.
-use Rattle.std.specs.Prelude.{ℕ, zero, suc, ◌+◌, ◌/◌, ◌%◌, ◌^◌, cond, List, [], ◌∷◌, ◌++◌, length, take, drop, ◌==◌, nat_lt, slice_index}
+use Rattle.std.specs.Prelude.{ℕ, zero, suc, ◌+◌, ◌/◌, ◌%◌, ◌^◌, cond, List, [], ◌∷◌, ◌++◌, ◌==◌, nat_lt, slice_index}
 use Rattle.report.specs.Texts as text
 use Rattle.state.specs.declared.State.{State}
 
@@ -62,10 +62,6 @@ lines_of reason steps s read written =
 -- what a call that is not accepted prints
 unfoldable pub refused_of : ℕ → List ℕ
 refused_of number = text.refused ++ decimal number ++ text.end
-
--- the text t over the front of l: t, or what of it l has room for, and then the rest of l
-unfoldable pub over : List ℕ → List ℕ → List ℕ
-over t l = take (length l) t ++ drop (length t) l
 
 -- ---- set bits
 

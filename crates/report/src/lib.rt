@@ -1,217 +1,206 @@
-// The lines that the program prints, written into a lent buffer. Each writer takes the position to write at and hands back the next.
+// The lines that the program prints, on a page.
 #![tactic(auto)]
 
-ghost use Rattle.std.specs.Prelude.{◌≡◌, ◌+◌, ◌%◌, ◌^◌, ◌<◌, ◌≤◌, [], ◌∷◌, ◌++◌, length};
-ghost use Rattle.report.specs.Lines.{digit, decimal, hex2, hex4, hex8};
-ghost use Rattle.report.specs.Lines.{stop_line, ctl_line, register_line, register_lines, maps_line, lines_of, refused_of, over, ones_of};
-ghost use Rattle.report.specs.Written.{Written};
+ghost use Rattle.std.specs.Prelude.{◌≡◌, ℕ, ◌+◌, ◌%◌, ◌^◌, ◌<◌, ◌≤◌, List, [], ◌∷◌, ◌++◌, length};
+ghost use Rattle.report.specs.Lines.{digit, decimal, hex8};
+ghost use Rattle.report.specs.Lines.{stop_line, ctl_line, register_line, register_lines, maps_line, lines_of, refused_of, ones_of};
 
-use state::State;
+use arrayvec::ArrayString;
+use itoa::Buffer;
+use state::{Core, State};
+use std::marker::Model;
 
-// One byte.
-fn put(out: &mut [u8; 1024], at: usize, b: u8) -> usize
-    requires { at < 1024 }
-    ensures { Written out.old at (b ∷ []) out.new result }
-{
-    out[at] = b;
-    at + 1
+// A text of at most 1024 bytes, which lie in the value itself: there is no heap, so that the program can't run out of memory.
+#[derive(Drop)]
+pub struct Page {
+    string: ArrayString<1024>,
 }
 
-// A text.
-fn text(out: &mut [u8; 1024], at: usize, s: &[u8]) -> usize
-    requires { at + length s.now ≤ 1024 }
-    ensures { Written out.old at s.now out.new result }
-{
-    let mut i = 0;
-    let mut k = at;
-    while i < s.len() {
-        k = put(out, k, s[i]);
-        i += 1;
-    }
-    k
+impl Model for Page {
+    ghost Value = { List ℕ };
+
+    ghost view = { λ p. p.string.bytes };
 }
 
 // A number below 16 as one hexadecimal digit.
-fn glyph(n: u8) -> u8
+fn glyph(n: u8) -> char
     requires { n < 16 }
     ensures { result ≡ digit n }
 {
-    if n < 10 { 48 + n } else { 55 + n }
+    let d = if n < 10 { b'0' + n } else { b'A' + (n - 10) };
+    d as char
 }
 
-// A number in decimal: the digits of a tenth of it, and then the last.
-fn decimals(out: &mut [u8; 1024], at: usize, n: usize) -> usize
-    requires { at + length (decimal n) ≤ 1024 }
-    ensures { Written out.old at (decimal n) out.new result }
-{
-    let last = glyph((n % 10) as u8);
-    if n < 10 {
-        return put(out, at, last);
+// Each writer asks that there is room for what it appends.
+impl Page {
+    pub fn new() -> Page
+        ensures { result ≡ [] }
+    {
+        Page {
+            string: ArrayString::new(),
+        }
     }
-    let k = decimals(out, at, n / 10);
-    put(out, k, last)
-}
 
-// Two hexadecimal digits.
-fn hex_byte(out: &mut [u8; 1024], at: usize, n: u32) -> usize
-    requires { (at + 2 ≤ 1024) × (n < 256) }
-    ensures { Written out.old at (hex2 n) out.new result × (result ≡ at + 2) }
-{
-    let k = put(out, at, glyph((n / 16) as u8));
-    put(out, k, glyph((n % 16) as u8))
-}
-
-// Four.
-fn hex_half(out: &mut [u8; 1024], at: usize, n: u32) -> usize
-    requires { (at + 4 ≤ 1024) × (n < 65536) }
-    ensures { Written out.old at (hex4 n) out.new result × (result ≡ at + 4) }
-{
-    let k = hex_byte(out, at, n / 256);
-    hex_byte(out, k, n % 256)
-}
-
-// Eight.
-fn hex_word(out: &mut [u8; 1024], at: usize, n: u32) -> usize
-    requires { at + 8 ≤ 1024 }
-    ensures { Written out.old at (hex8 n) out.new result × (result ≡ at + 8) }
-{
-    let k = hex_half(out, at, n / 65536);
-    hex_half(out, k, n % 65536)
-}
-
-// A text and a number. That a small number takes little room is for the registers, of which there are many.
-fn labelled(out: &mut [u8; 1024], at: usize, s: &[u8], n: usize) -> usize
-    requires { at + length s.now + 20 ≤ 1024 }
-    ensures { Written out.old at (s.now ++ decimal n) out.new result
-        × (result ≤ at + length s.now + 20)
-        × (n < 100 → result ≤ at + length s.now + 2) }
-{
-    let k = text(out, at, s);
-    decimals(out, k, n)
-}
-
-// A text, eight hexadecimal digits, and the end of the line.
-fn ended(out: &mut [u8; 1024], at: usize, s: &[u8], n: u32) -> usize
-    requires { at + length s.now + 9 ≤ 1024 }
-    ensures { Written out.old at (s.now ++ hex8 n ++ 10 ∷ []) out.new result
-        × (result ≡ at + length s.now + 9) }
-{
-    let k = text(out, at, s);
-    let e = hex_word(out, k, n);
-    put(out, e, 10)
-}
-
-// The first line.
-fn stop_line(out: &mut [u8; 1024], reason: u32, steps: u32, pc: u32) -> usize
-    ensures { Written out.old 0 (stop_line reason steps pc) out.new result × (result ≤ 65) }
-{
-    let a = labelled(out, 0, b"stop ", reason as usize);
-    let b = labelled(out, a, b" steps ", steps as usize);
-    ended(out, b, b" pc ", pc)
-}
-
-// The second line.
-fn ctl_line(
-    out: &mut [u8; 1024],
-    at: usize,
-    status: u32,
-    estatus: u32,
-    bstatus: u32,
-    ienable: u32,
-) -> usize
-    requires { at + 76 ≤ 1024 }
-    ensures { Written out.old at (ctl_line status estatus bstatus ienable) out.new result × (result ≤ at + 76) }
-{
-    let a = labelled(out, at, b"ctl ", status as usize);
-    let b = labelled(out, a, b" ", estatus as usize);
-    let c = labelled(out, b, b" ", bstatus as usize);
-    ended(out, c, b" ", ienable)
-}
-
-// The line of register i, where it is not 0.
-fn register_line(out: &mut [u8; 1024], at: usize, i: usize, v: u32) -> usize
-    requires { (at + 31 ≤ 1024) × (i < 100) }
-    ensures { Written out.old at (register_line i v) out.new result × (result ≤ at + 13) }
-{
-    if v == 0 {
-        return at;
+    pub fn as_bytes(&self) -> &[u8]
+        ensures { result.now ≡ self.now }
+    {
+        self.string.as_str().as_bytes()
     }
-    let k = labelled(out, at, b"r", i);
-    ended(out, k, b" ", v)
-}
 
-// The lines of the registers: at most 32 times 13 bytes, and the last line asks room for any number, 18 more.
-fn register_lines(out: &mut [u8; 1024], at: usize, r: &[u32; 32]) -> usize
-    requires { at + 434 ≤ 1024 }
-    ensures { Written out.old at (register_lines 32 r.now) out.new result × (result ≤ at + 416) }
-{
-    let mut i = 0;
-    let mut k = at;
-    while i < 32 {
-        let next = i + 1;
-        k = register_line(out, k, i, r[i]);
-        i = next;
+    fn push(&mut self, c: char)
+        requires { (length self.old < 1024) × (c < 128) }
+        ensures { self.new ≡ self.old ++ c ∷ [] }
+    {
+        self.string.push(c);
     }
-    k
-}
 
-// The last line.
-fn maps_line(out: &mut [u8; 1024], at: usize, read: usize, written: usize) -> usize
-    requires { at + 55 ≤ 1024 }
-    ensures { Written out.old at (maps_line read written) out.new result × (result ≤ at + 55) }
-{
-    let a = labelled(out, at, b"read ", read);
-    let b = labelled(out, a, b" written ", written);
-    put(out, b, 10)
+    fn text(&mut self, s: &str)
+        requires { length self.old + length s.now ≤ 1024 }
+        ensures { self.new ≡ self.old ++ s.now }
+    {
+        self.string.push_str(s);
+    }
+
+    // A number in decimal, of at most 20 digits.
+    #[tactic(auto, using(crate::proofs::Digits::same_decimal))]
+    fn decimal(&mut self, n: usize)
+        requires { length self.old + 20 ≤ 1024 }
+        ensures { self.new ≡ self.old ++ decimal n }
+    {
+        let mut digits = Buffer::new();
+        self.text(digits.format(n));
+    }
+
+    // Eight hexadecimal digits, two for each byte.
+    // No `write!` of `{:08X}`: what it ensures is of an Ok alone, and a report can't fail (the clauses of `report` and `refusal`).
+    #[tactic(auto, using(crate::proofs::Digits::hex_bytes), unfolding(crate::specs::Lines::hex2))]
+    fn hex(&mut self, n: u32)
+        requires { length self.old + 8 ≤ 1024 }
+        ensures { self.new ≡ self.old ++ hex8 n }
+    {
+        for b in n.to_be_bytes() {
+            self.push(glyph(b / 16));
+            self.push(glyph(b % 16));
+        }
+    }
+
+    // A text and a number.
+    #[tactic(auto, using(crate::proofs::Room::room, crate::proofs::Digits::decimal_short))]
+    fn labelled(&mut self, s: &str, n: usize)
+        requires { length self.old + length s.now + 20 ≤ 1024 }
+        ensures text { self.new ≡ self.old ++ (s.now ++ decimal n) }
+        ensures room { length self.new ≤ length self.old + length s.now + 20 }
+    {
+        self.text(s);
+        self.decimal(n);
+    }
+
+    // A text, eight hexadecimal digits, and the end of the line.
+    #[tactic(auto, using(crate::proofs::Room::room, crate::proofs::Digits::hex8_long))]
+    fn ended(&mut self, s: &str, n: u32)
+        requires { length self.old + length s.now + 9 ≤ 1024 }
+        ensures text { self.new ≡ self.old ++ (s.now ++ hex8 n ++ 10 ∷ []) }
+        ensures room { length self.new ≤ length self.old + length s.now + 9 }
+    {
+        self.text(s);
+        self.hex(n);
+        self.push('\n');
+    }
+
+    // The first line.
+    #[tactic(auto, using(std::proofs::Common::append_assoc), unfolding(crate::specs::Lines::stop_line))]
+    fn stop_line(&mut self, reason: u32, steps: u32, pc: u32)
+        requires { length self.old + 65 ≤ 1024 }
+        ensures text { self.new ≡ self.old ++ stop_line reason steps pc }
+        ensures room { length self.new ≤ length self.old + 65 }
+    {
+        self.labelled("stop ", reason as usize);
+        self.labelled(" steps ", steps as usize);
+        self.ended(" pc ", pc);
+    }
+
+    // The second line.
+    #[tactic(auto, using(std::proofs::Common::append_assoc), unfolding(crate::specs::Lines::ctl_line))]
+    fn ctl_line(&mut self, c: &Core)
+        requires { length self.old + 76 ≤ 1024 }
+        ensures text { self.new ≡ self.old ++ ctl_line c.now.status c.now.estatus c.now.bstatus c.now.ienable }
+        ensures room { length self.new ≤ length self.old + 76 }
+    {
+        self.labelled("ctl ", c.status as usize);
+        self.labelled(" ", c.estatus as usize);
+        self.labelled(" ", c.bstatus as usize);
+        self.ended(" ", c.ienable);
+    }
+
+    // The line of register i, where it is not 0. That i is small is for `room`: there are many registers.
+    #[tactic(auto, using(crate::proofs::Room::room, std::proofs::Common::append_assoc, crate::proofs::Digits::decimal_two, crate::proofs::Digits::hex8_long), unfolding(crate::specs::Lines::register_line))]
+    fn register_line(&mut self, i: usize, v: u32)
+        requires { (length self.old + 31 ≤ 1024) × (i < 100) }
+        ensures text { self.new ≡ self.old ++ register_line i v }
+        ensures room { length self.new ≤ length self.old + 13 }
+    {
+        if v != 0 {
+            self.labelled("r", i);
+            self.ended(" ", v);
+        }
+    }
+
+    // The lines of the registers: at most 32 times 13 bytes, and the last line asks room for any number, 18 more.
+    #[tactic(auto, using(std::proofs::Common::append_assoc), unfolding(crate::specs::Lines::register_lines))]
+    fn register_lines(&mut self, r: &[u32; 32])
+        requires { length self.old + 434 ≤ 1024 }
+        ensures text { self.new ≡ self.old ++ register_lines 32 r.now }
+        ensures room { length self.new ≤ length self.old + 416 }
+    {
+        for (i, v) in r.iter().enumerate() {
+            self.register_line(i, *v);
+        }
+    }
+
+    // The last line.
+    #[tactic(auto, using(std::proofs::Common::append_assoc), unfolding(crate::specs::Lines::maps_line))]
+    fn maps_line(&mut self, read: usize, written: usize)
+        requires { length self.old + 55 ≤ 1024 }
+        ensures { self.new ≡ self.old ++ maps_line read written }
+    {
+        self.labelled("read ", read);
+        self.labelled(" written ", written);
+        self.push('\n');
+    }
 }
 
 // The lines of an accepted call. `read` and `written` are the set bits of the two maps.
-pub fn report(
-    out: &mut [u8; 1024],
-    reason: u32,
-    steps: u32,
-    s: State,
-    read: usize,
-    written: usize,
-) -> usize
-    ensures { (out.new ≡ over (lines_of reason steps s read written) out.old)
-        × (result ≡ length (lines_of reason steps s read written))
-        × (result ≤ 1024) }
+#[tactic(auto, using(std::proofs::Common::append_assoc), unfolding(crate::specs::Lines::lines_of))]
+pub fn report(reason: u32, steps: u32, s: &State, read: usize, written: usize) -> Page
+    ensures { result ≡ lines_of reason steps s.now read written }
 {
-    let core = s.core;
-    let regs = s.regs.r;
-    let a = stop_line(out, reason, steps, core.pc);
-    let b = ctl_line(
-        out,
-        a,
-        core.status,
-        core.estatus,
-        core.bstatus,
-        core.ienable,
-    );
-    let c = register_lines(out, b, &regs);
-    maps_line(out, c, read, written)
+    let mut page = Page::new();
+    page.stop_line(reason, steps, s.core.pc);
+    page.ctl_line(&s.core);
+    page.register_lines(&s.regs.r);
+    page.maps_line(read, written);
+    page
 }
 
 // The line of a call that is not accepted.
-pub fn refusal(out: &mut [u8; 1024], number: u32) -> usize
-    ensures { (out.new ≡ over (refused_of number) out.old)
-        × (result ≡ length (refused_of number))
-        × (result ≤ 1024) }
+#[tactic(auto, using(std::proofs::Common::append_assoc), unfolding(crate::specs::Lines::refused_of))]
+pub fn refusal(number: u32) -> Page
+    ensures { result ≡ refused_of number }
 {
-    let a = labelled(out, 0, b"refused ", number as usize);
-    put(out, a, 10)
+    let mut page = Page::new();
+    page.labelled("refused ", number as usize);
+    page.push('\n');
+    page
 }
 
-// The set bits of a map. A slice may have more of them than a usize holds, so modulo 2 ^ 64: exact below 2 ^ 61 bytes (ones-exact).
+// The set bits of a map. A slice may have more of them than a usize holds, so modulo 2 ^ 64: exact below 2 ^ 61 bytes (ones_exact).
+#[tactic(auto, using(crate::proofs::Bits::ones_more), unfolding(crate::specs::Lines::ones_of))]
 pub fn ones(map: &[u8]) -> usize
     ensures { result ≡ ones_of map.now % 2 ^ 64 }
 {
     let mut n: usize = 0;
-    let mut i = 0;
-    while i < map.len() {
-        n = std::num::wrapping_add_usize(n, u8::count_ones(map[i]) as usize);
-        i += 1;
+    for b in map {
+        n = n.wrapping_add(b.count_ones() as usize);
     }
     n
 }

@@ -135,7 +135,8 @@ impl Regs {
         self
     }
 
-    // The same in place. What `with` hands back differs in one register alone, so that one is stored.
+    // The same in place. What `with` hands back differs in one register alone, so that one is stored. The test stays, for speed:
+    // `self.r[k] = self.with(i, v).r[k]` alone proves too, and takes a run from 151 to 161 machine instructions a step.
     #[tactic(auto, using(crate::proofs::Writes::taken_back, crate::proofs::Writes::write_none))]
     pub fn set(&mut self, i: u32, v: u32)
         ensures { self.new ≡ write_regs self.old i v }

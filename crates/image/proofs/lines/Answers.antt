@@ -1,11 +1,12 @@
 -- `image::lines` meets its contract: a refusal's line, or the lines of the run.
 -- Assumes nothing.
-use mathlib.Core.Path.{◌∙◌}
+use Rattle.std.proofs.Common.{ap, ◌∙◌}
+use Rattle.machine.specs.Calls.{refused}
 use Rattle.image.proofs.Printing.{prints_refusal, prints_run}
 use Rattle.image.proofs.lines.Goals as goal
 
-pub returns-then-number-ne0 : goal.returns-then-number-ne0
-returns-then-number-ne0 c = (prints_refusal c.args.mem.now c.args.read.now c.args.written.now c.args.out.now _ _ c.fresh-start.result (rw (c.blank.ensures, c.settings-s.ensures) at c.fresh-start.ensures) c.if-number-ne0.true _ _ c.refusal.ensures.1 c.refusal.ensures.0, c.refusal.ensures.2)
+pub returns-in-Err : goal.returns-in-Err
+returns-in-Err c = rw (c.refusal.ensures, c.number.ensures) (prints_refusal c.args.mem.now c.args.read.now c.args.written.now _ _ c.fresh.result _ (rw (c.fresh-held.ensures, c.settings-s.ensures) at c.fresh.ensures) _ c.in-Err.is)
 
 pub returns : goal.returns
-returns c = (prints_run c.args.mem.now c.args.read.now c.args.written.now c.args.out.now _ _ c.fresh-start.result (rw (c.blank.ensures, c.settings-s.ensures) at c.fresh-start.ensures) c.if-number-ne0.false _ _ _ _ (rw c.settings-s.ensures at c.run-a.ensures) (c.run-a.auto.read ∙ c.fresh-start.auto.read) (c.run-a.auto.written ∙ c.fresh-start.auto.written) _ _ _ _ c.ones.ensures c.ones-2.ensures c.report.ensures.1 c.report.ensures.0, c.report.ensures.2)
+returns c = rw (c.report.ensures, c.ones.ensures, c.ones-2.ensures, c.numbers-number.ensures) (prints_run c.args.mem.now c.args.read.now c.args.written.now _ _ c.fresh.result _ (rw (c.fresh-held.ensures, c.settings-s.ensures) at c.fresh.ensures) (ap refused c.in_default.is) _ _ _ _ _ _ (rw c.settings-s.ensures at c.run-end.ensures) (c.run-end.auto.read ∙ c.fresh.auto.read) (c.run-end.auto.written ∙ c.fresh.auto.written))

@@ -1,11 +1,8 @@
--- The invariant and the measure of the loop of `report::ones`: the bytes passed are counted.
+-- The invariant of the loop of `report::ones`: the bytes so far are counted.
 -- Assumes nothing.
-use Rattle.std.proofs.Common.{◌-◌, length}
-use Rattle.report.proofs.Turns.{Counted}
+use Rattle.std.proofs.Common.{◌≡◌, ◌%◌, ◌^◌, take}
+use Rattle.report.specs.Lines.{ones_of}
 use Rattle.report.proofs.ones.Given as goal
 
-abbrev pub invariant-loop-i : goal.invariant-loop-i
-invariant-loop-i l = Counted l.map l.n l.i
-
-abbrev pub decreases-loop-i : goal.decreases-loop-i
-decreases-loop-i l = length l.map - l.i
+abbrev pub invariant-loop-b : goal.invariant-loop-b
+invariant-loop-b l = l.n ≡ ones_of (take l.b-index l.map) % 2 ^ 64
