@@ -7,6 +7,7 @@ use report::Page;
 use std::io::{Read, Write};
 
 // Reads until buf is full, the input ends or a read fails, and says how many bytes there are.
+// No method of `Read`: `read_to_end` and `read_to_string` need a heap, and `read_exact` does not tell how long a short input was.
 fn read_full<R: Read>(input: &mut R, buf: &mut [u8]) -> usize
     ensures { result ≤ length buf.new }
 {
@@ -20,7 +21,8 @@ fn read_full<R: Read>(input: &mut R, buf: &mut [u8]) -> usize
     done
 }
 
-// The lines of the image on the input. The buffers have room for the largest, of 32,768 bytes, and its maps; a longer one is refused.
+// The lines of the image on the input. With no heap the buffers are fixed memory: they have room for the largest image, of 32,768
+// bytes, and its maps; a longer one is refused.
 fn answer<R: Read>(input: &mut R) -> Page {
     let mut bytes = [0u8; 65536];
     let mut read = [0u8; 4096];

@@ -22,7 +22,7 @@ impl Model for Page {
     ghost view = { λ p. p.string.bytes };
 }
 
-// A number below 16 as one hexadecimal digit.
+// A number below 16 as one hexadecimal digit. `char::from_digit` gives small letters, and those in an Option.
 fn glyph(n: u8) -> char
     requires { n < 16 }
     ensures { result ≡ digit n }
