@@ -214,15 +214,7 @@ fn listed(k: Kind, f: Fields, a: u32, b: u32, pc: u32, mul: bool, div: bool) -> 
 }
 
 // A word, by its kind: one that is not in the list has none.
-pub fn exec(
-    k: Option<Kind>,
-    f: Fields,
-    a: u32,
-    b: u32,
-    pc: u32,
-    mul: bool,
-    div: bool,
-) -> Effect
+pub fn exec(k: Option<Kind>, f: Fields, a: u32, b: u32, pc: u32, mul: bool, div: bool) -> Effect
     ensures { result ≡ exec_of k f a b pc mul div }
 {
     match k {

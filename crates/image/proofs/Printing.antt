@@ -1,11 +1,10 @@
 -- What the calls' contracts say of the lines.
 -- Assumes nothing.
-use Rattle.std.proofs.Common.{◌≡◌, ◌≢◌, refl, sym, ap, ◌∙◌, List, ℕ, zero, suc, ◌%◌, ◌^◌, ◌≤◌, length, arith, Result, Ok, Err}
+use Rattle.std.proofs.Common.{◌≡◌, ◌≢◌, refl, sym, ap, ◌∙◌, List, ℕ, zero, suc, ◌%◌, ◌^◌, ◌≤◌, length, arith, Result, Err}
 use Rattle.maps.specs.Pair.{pair}
 use Rattle.state.specs.State.{fresh_state}
 use Rattle.state.specs.declared.State.{State}
 use Rattle.trace.specs.Maps.{Maps}
-use Rattle.trace.specs.Machine.{Answer}
 use Rattle.machine.specs.declared.Refusal.{Refusal}
 use Rattle.machine.specs.Calls.{refusal_number, refused, Started, started, fresh_of, run_of}
 use Rattle.machine.proofs.Accepted.{some, small_maps, start_number}

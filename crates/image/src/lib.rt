@@ -32,5 +32,11 @@ pub fn lines(mem: &mut [u8], read: &mut [u8], written: &mut [u8]) -> Page
     }
     let end = machine::run(mem, read, written, &mut held, s, 0, 1000);
     let (number, steps) = machine::numbers(end);
-    report::report(number, steps, &held, report::ones(read), report::ones(written))
+    report::report(
+        number,
+        steps,
+        &held,
+        report::ones(read),
+        report::ones(written),
+    )
 }

@@ -18,7 +18,7 @@ use Rattle.machine.specs.declared.Refusal.{Refusal}
 use Rattle.machine.specs.declared.Refusal.TheVariants.{BadMemory, BadMap, BadSettings, BadState, BadBudget, BadRange}
 use Rattle.machine.specs.Calls.{bad_memory, bad_map, bad_settings, bad_state, bad_budget, bad_range}
 use Rattle.machine.specs.Calls.{refusal_number, fresh_refusal, run_refusal, edit_refusal, Lent, unless_refused, run_of}
-use Rattle.machine.specs.Calls.{Started, unless_started, fresh_state, fresh_of, Verdict, Refused, unless_bad, asked, edit_of}
+use Rattle.machine.specs.Calls.{unless_started, fresh_state, fresh_of, Verdict, Refused, unless_bad, asked, edit_of}
 use Rattle.machine.specs.Step.{machine}
 
 pub neither : (a b : Bool) → (a || b) ≡ false → (a ≡ false) × (b ≡ false)

@@ -1,12 +1,13 @@
 -- The test of an address, and how a load, a store and a whole attempt end by it.
 -- Assumes nothing.
-use Rattle.std.proofs.Common.{◌≡◌, refl, sym, ap, ap₂, ◌∙◌, Bool, true, false, not, cond, List, ℕ, ◌+◌, ◌%◌, ◌≤◌, ◌<◌, length, arith, Result, Ok, Err}
+use Rattle.std.proofs.Common.{◌≡◌, refl, sym, ap, ap₂, ◌∙◌, Bool, true, false, cond, List, ℕ, ◌+◌, ◌%◌, ◌≤◌, ◌<◌, length, arith, Result, Ok, Err}
 use borrow.Author.Tests.{leb-true}
 use lib.Dec.{eqb, leb}
-use Rattle.trace.specs.Access.{reads, stores, each, number, put}
-use Rattle.trace.specs.Maps.{Maps, mark}
+use Rattle.trace.specs.Access.{Access, reads, stores, each, number, put}
 use Rattle.trace.specs.Machine.{After, stop, Attempt, halt, fetch}
-use Rattle.maps.specs.Pair.{pair, Room}
+use Rattle.maps.specs.declared.Marks.{Marks}
+use Rattle.maps.specs.Both.{HasRoom, marked}
+use Rattle.maps.proofs.Both.{kept_marked}
 use Rattle.exec.specs.declared.Width.{Width}
 use Rattle.exec.specs.declared.Width.TheVariants.{Byte, Half, Word}
 use Rattle.exec.specs.declared.Effect.{Effect}
@@ -63,12 +64,18 @@ bytes_range Byte = (omega arith, omega arith)
 bytes_range Half = (omega arith, omega arith)
 bytes_range Word = (omega arith, omega arith)
 
-pub room : (m read written : List ℕ) (n : ℕ) → Lent m read written → n ≤ length m → Room read written n
-room m read written n l h = record { of_first = omega (arith, l.of_read); of_written = omega (arith, l.of_written); small = omega (arith, l.size) }
+pub room : (m : List ℕ) (p : Marks) (n : ℕ) → Lent m p.first.now p.written.now → n ≤ length m → HasRoom p n
+room m p n l h = record { of_first = omega (arith, l.of_read); of_written = omega (arith, l.of_written); small = omega (arith, l.size) }
+
+-- and after marks
+pub lent_on : (m : List ℕ) (p p' : Marks) (l : List Access) → p' ≡ marked l p → Lent m p.first.now p.written.now → Lent m p'.first.now p'.written.now
+lent_on m p p' l e h =
+    let k = kept_marked l p p' e in
+    record { size = h.size; of_read = omega (arith, h.of_read, k.first_length); of_written = omega (arith, h.of_written, k.written_length) }
 
 -- ---- loads and stores
 
-module _ (m read written : List ℕ) (c : Core) (a : ℕ) (w : Width) (n : ℕ) (size : n ≡ bytes w) where
+module _ (m : List ℕ) (p : Marks) (c : Core) (a : ℕ) (w : Width) (n : ℕ) (size : n ≡ bytes w) where
   abbrev Tested : Result (Unit {0}) Reason → Type 0
   Tested t = t ≡ within_of (length m) a n DataMisaligned DataPast
 
@@ -85,43 +92,43 @@ module _ (m read written : List ℕ) (c : Core) (a : ℕ) (w : Width) (n : ℕ) 
   within_goes y e x = open_to (length m) a (bytes w) DataMisaligned DataPast x stop y (of_width (Ok y) e)
 
   pub load_stops : (r : Reason) → Tested (Err r) → (d : ℕ) (s : Bool)
-      → ended (Err r) m read written ≡ after_end (step.loads (length m) c d a w s) m (pair read written)
+      → ended (Err r) m p ≡ after_end (step.loads (length m) c d a w s) m p
   unfolding after_end
   load_stops r e d s = rw (within_stops r e _)
 
   pub store_stops : (r : Reason) → Tested (Err r) → (v : ℕ)
-      → ended (Err r) m read written ≡ after_end (step.stores (length m) c a w v) m (pair read written)
+      → ended (Err r) m p ≡ after_end (step.stores (length m) c a w v) m p
   unfolding after_end
   store_stops r e v = rw (within_stops r e _)
 
-  pub load_makes : (y : Unit {0}) → Tested (Ok y) → (d : ℕ) (s : Bool) (v x : ℕ) (core : Core) (h : Change) (read' written' : List ℕ)
-      → v ≡ number m a (bytes w) → pair read' written' ≡ mark (each reads a (bytes w)) (pair read written)
+  pub load_makes : (y : Unit {0}) → Tested (Ok y) → (d : ℕ) (s : Bool) (v x : ℕ) (core : Core) (h : Change) (p' : Marks)
+      → v ≡ number m a (bytes w) → p' ≡ marked (each reads a (bytes w)) p
       → x ≡ loaded w s v → core ≡ next c → h ≡ writes d x core
-      → ended (Ok h) m read' written' ≡ after_end (step.loads (length m) c d a w s) m (pair read written)
+      → ended (Ok h) m p' ≡ after_end (step.loads (length m) c d a w s) m p
   unfolding after_end
-  load_makes y e d s v x core h read' written' ev em ex ec eh =
-      rw (within_goes y e _, eh, ec, ex, ev) (ap (λ p. record { turn = Ok (writes d (loaded w s (number m a (bytes w))) (next c)); memory = m; maps = p }) em)
+  load_makes y e d s v x core h p' ev em ex ec eh =
+      rw (within_goes y e _, eh, ec, ex, ev) (ap (λ q. record { turn = Ok (writes d (loaded w s (number m a (bytes w))) (next c)); memory = m; marks = q }) em)
 
-  pub store_makes : (y : Unit {0}) → Tested (Ok y) → (v : ℕ) (core : Core) (h : Change) (m' read' written' : List ℕ)
-      → m' ≡ put m a (bytes w) v → pair read' written' ≡ mark (each stores a (bytes w)) (pair read written)
+  pub store_makes : (y : Unit {0}) → Tested (Ok y) → (v : ℕ) (core : Core) (h : Change) (m' : List ℕ) (p' : Marks)
+      → m' ≡ put m a (bytes w) v → p' ≡ marked (each stores a (bytes w)) p
       → core ≡ next c → h ≡ only core
-      → ended (Ok h) m' read' written' ≡ after_end (step.stores (length m) c a w v) m (pair read written)
+      → ended (Ok h) m' p' ≡ after_end (step.stores (length m) c a w v) m p
   unfolding after_end
-  store_makes y e v core h m' read' written' ev em ec eh =
-      rw (within_goes y e _, eh, ec, ev) (ap (λ p. record { turn = Ok (only (next c)); memory = put m a (bytes w) v; maps = p }) em)
+  store_makes y e v core h m' p' ev em ec eh =
+      rw (within_goes y e _, eh, ec, ev) (ap (λ q. record { turn = Ok (only (next c)); memory = put m a (bytes w) v; marks = q }) em)
 
 -- ---- a whole attempt, by the first rule that holds
 
-module _ (S : Settings) (lines : ℕ) (r : List ℕ) (c : Core) (m read written : List ℕ) where
+module _ (S : Settings) (lines : ℕ) (r : List ℕ) (c : Core) (m : List ℕ) (p : Marks) where
   abbrev Goal : End → Type 0
-  Goal x = x ≡ attempt_end (step.attempt S lines (length m) r c) m (pair read written)
+  Goal x = x ≡ attempt_end (step.attempt S lines (length m) r c) m p
 
-  pub ends_above : above c ≡ true → Goal (ended (Err Unsound) m read written)
+  pub ends_above : above c ≡ true → Goal (ended (Err Unsound) m p)
   unfolding attempt_end step.attempt
   ends_above t = rw (t)
 
   module _ (f : above c ≡ false) where
-    pub ends_interrupted : interrupted lines c ≡ true → (h : Change) → h ≡ exception S c → Goal (ended (Ok h) m read written)
+    pub ends_interrupted : interrupted lines c ≡ true → (h : Change) → h ≡ exception S c → Goal (ended (Ok h) m p)
     unfolding attempt_end step.attempt
     ends_interrupted t h e = rw (f, t, e)
 
@@ -135,19 +142,19 @@ module _ (S : Settings) (lines : ℕ) (r : List ℕ) (c : Core) (m read written 
       unfolding step.attempt fetches
       by_address A e = rw (f, g) e
 
-      known : (A : Attempt ℕ Change) → step.attempt S lines (length m) r c ≡ A → attempt_end (step.attempt S lines (length m) r c) m (pair read written) ≡ attempt_end A m (pair read written)
-      known A q = ap (λ (B : Attempt ℕ Change). attempt_end B m (pair read written)) q
+      known : (A : Attempt ℕ Change) → step.attempt S lines (length m) r c ≡ A → attempt_end (step.attempt S lines (length m) r c) m p ≡ attempt_end A m p
+      known A q = ap (λ (B : Attempt ℕ Change). attempt_end B m p) q
 
-      pub ends_barred : (k : Reason) → Err k ≡ within_of (length m) c.pc 4 Misaligned Past → Goal (ended (Err k) m read written)
+      pub ends_barred : (k : Reason) → Err k ≡ within_of (length m) c.pc 4 Misaligned Past → Goal (ended (Err k) m p)
       unfolding attempt_end
       ends_barred k e = sym (known (halt (reason_number k)) (by_address _ (barred (length m) c.pc 4 Misaligned Past fetches halt k e)))
 
-      pub ends_fetched : (y : Unit {0}) → Ok y ≡ within_of (length m) c.pc 4 Misaligned Past → (w : ℕ) (x : Effect) (read' written' : List ℕ) (z : End)
-          → pair read' written' ≡ mark (each reads c.pc 4) (pair read written) → w ≡ number m c.pc 4 → x ≡ step.executes S r c w
-          → z ≡ after_end (step.does S lines (length m) r c x) m (pair read' written') → Goal z
+      pub ends_fetched : (y : Unit {0}) → Ok y ≡ within_of (length m) c.pc 4 Misaligned Past → (w : ℕ) (x : Effect) (p' : Marks) (z : End)
+          → p' ≡ marked (each reads c.pc 4) p → w ≡ number m c.pc 4 → x ≡ step.executes S r c w
+          → z ≡ after_end (step.does S lines (length m) r c x) m p' → Goal z
       unfolding attempt_end after_end fetches
-      ends_fetched y e w x read' written' z em ew ex ez =
+      ends_fetched y e w x p' z em ew ex ez =
           ez
-          ∙ ap (λ (y : Effect). after_end (step.does S lines (length m) r c y) m (pair read' written')) ex
-          ∙ ap₂ (λ (y : ℕ) (p : Maps). after_end (step.does S lines (length m) r c (step.executes S r c y)) m p) ew em
+          ∙ ap (λ (y : Effect). after_end (step.does S lines (length m) r c y) m p') ex
+          ∙ ap₂ (λ (y : ℕ) (q : Marks). after_end (step.does S lines (length m) r c (step.executes S r c y)) m q) ew em
           ∙ sym (known fetches (by_address _ (open_to (length m) c.pc 4 Misaligned Past fetches halt y e)))

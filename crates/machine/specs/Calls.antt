@@ -1,6 +1,7 @@
 -- The three calls: what is not accepted, in order, and what an accepted call gives.
 -- Assumes nothing.
 use Rattle.std.specs.Prelude.{◌≡◌, Bool, true, false, not, ◌||◌, cond, List, [], ◌∷◌, ℕ, zero, suc, ◌+◌, ◌-◌, ◌*◌, ◌/◌, ◌%◌, ◌^◌, ◌≤◌, eqb, ltb, length, get_or, replicate, Result, Ok, Err}
+use Rattle.maps.specs.declared.Marks.{Marks}
 use Rattle.maps.specs.Pair.{pair, none_set}
 use Rattle.state.specs.declared.State.{State}
 use Rattle.state.specs.declared.Settings.{Settings}
@@ -91,6 +92,9 @@ pub record Lent (m read written : List ℕ) : Type 0 where
   pub of_read : length m ≡ 8 * length read
   pub of_written : length m ≡ 8 * length written
 
+abbrev pub LentWith : List ℕ → Marks → Type 0
+LentWith m p = Lent m p.first.now p.written.now
+
 -- x where n is 0; with another number all is left unchanged, steps 0
 abbrev pub unless_refused : ℕ → State → List ℕ → Maps → Answer ℕ State → Answer ℕ State
 unless_refused zero s m p x = x
@@ -102,8 +106,8 @@ run_of m read written s S lines budget =
     (answer (machine S lines (length m)) budget s m (pair read written))
 
 -- what the steps hand back and leave, as an answer
-abbrev pub ran : Ran → State → List ℕ → List ℕ → List ℕ → Answer ℕ State
-ran r s m read written = record { reason = reason_number r.reason; steps = r.steps; config = s; memory = m; maps = pair read written }
+abbrev pub ran : Ran → State → List ℕ → Maps → Answer ℕ State
+ran r s m p = record { reason = reason_number r.reason; steps = r.steps; config = s; memory = m; maps = p }
 
 -- what a call hands back, by its number and its steps, and with what it leaves as an answer
 abbrev pub numbers : Result Ran Refusal → ℕ × ℕ

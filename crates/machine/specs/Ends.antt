@@ -1,11 +1,11 @@
 -- How a step in code tells its outcome: a change or a reason, and what it leaves in the lent slices.
 -- Assumes nothing.
 use Rattle.std.specs.Prelude.{cond, List, ℕ, ◌+◌, ◌%◌, eqb, leb, Result, Ok, Err}
-use Rattle.maps.specs.Pair.{pair}
+use Rattle.maps.specs.declared.Marks.{Marks}
+use Rattle.maps.specs.Both.{marked}
 use Rattle.state.specs.declared.Change.{Change}
 use Rattle.state.specs.declared.Reason.{Reason}
 use Rattle.state.specs.State.{reason_number}
-use Rattle.trace.specs.Maps.{Maps, mark}
 use Rattle.trace.specs.Machine.{After, Attempt, Outcome, stopped, stepped, finish, perform, data_of, touched}
 
 -- the n bytes at a: the first reason where a is no multiple of n, then the second where they pass the end
@@ -28,14 +28,14 @@ memory_of m (stepped c n) = n
 pub record End : Type 0 where
   pub turn : Result Change ℕ
   pub memory : List ℕ
-  pub maps : Maps
+  pub marks : Marks
 
-abbrev pub ended : Result Change Reason → List ℕ → List ℕ → List ℕ → End
-ended t m first written = record { turn = numbered t; memory = m; maps = pair first written }
+abbrev pub ended : Result Change Reason → List ℕ → Marks → End
+ended t m p = record { turn = numbered t; memory = m; marks = p }
 
 -- what follows the fetch, and a whole attempt
-unfoldable pub after_end : After ℕ Change → List ℕ → Maps → End
-after_end F m p = record { turn = turn_of (finish F m); memory = memory_of m (finish F m); maps = mark (data_of F) p }
+unfoldable pub after_end : After ℕ Change → List ℕ → Marks → End
+after_end F m p = record { turn = turn_of (finish F m); memory = memory_of m (finish F m); marks = marked (data_of F) p }
 
-unfoldable pub attempt_end : Attempt ℕ Change → List ℕ → Maps → End
-attempt_end A m p = record { turn = turn_of (perform A m); memory = memory_of m (perform A m); maps = mark (touched A m) p }
+unfoldable pub attempt_end : Attempt ℕ Change → List ℕ → Marks → End
+attempt_end A m p = record { turn = turn_of (perform A m); memory = memory_of m (perform A m); marks = marked (touched A m) p }

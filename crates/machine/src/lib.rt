@@ -3,17 +3,17 @@
 
 ghost use Rattle.std.specs.Prelude.{◌≡◌, ◌+◌, ◌^◌, ◌<◌, ◌≤◌, length};
 ghost use Rattle.trace.specs.Access.{reads, stores, each, number, put};
-ghost use Rattle.trace.specs.Maps.{mark};
 ghost use Rattle.trace.specs.Machine.{answer};
-ghost use Rattle.maps.specs.Pair.{pair, Room};
+ghost use Rattle.maps.specs.Both.{maps_of, marked, HasRoom, Kept};
 ghost use Rattle.machine.specs.Step.{bytes, loaded as loaded_of};
 ghost use Rattle.machine.specs.Step.{loads, stores as stores_of, does, executes as executes_of, attempt, machine};
 ghost use Rattle.machine.specs.Ends.{ended, after_end, attempt_end, within_of};
 ghost use Rattle.machine.specs.Calls.{bad_memory, bad_map, bad_address, bad_settings, bad_state, bad_range, fresh_refusal, run_refusal, edit_refusal};
-ghost use Rattle.machine.specs.Calls.{refusal_number, refused, run_of, ran, numbers, answered, started, fresh_of, edit_of, told, bad_budget, Lent};
+ghost use Rattle.machine.specs.Calls.{refusal_number, refused, run_of, ran, numbers, answered, started, fresh_of, edit_of, told, bad_budget, LentWith};
 
 use exec::{Effect, Width};
 use isa::Fields;
+use maps::Marks;
 use state::{Change, Core, Reason, Regs, Settings, State};
 use std::ops::Range;
 
@@ -90,101 +90,110 @@ fn within(len: usize, a: usize, n: usize, crooked: Reason, past: Reason) -> Resu
 }
 
 // The number in the N bytes at a, and their marks.
-fn take_bytes<const N: usize>(mem: &[u8], read: &mut [u8], written: &mut [u8], a: usize) -> u32
+fn take_bytes<const N: usize>(mem: &[u8], marks: &mut Marks, a: usize) -> u32
     requires width { N ≤ 4 }
     requires within { a + N ≤ length mem.now }
-    requires room { Room read.old written.old (a + N) }
-    ensures { (result ≡ number mem.now a N) × (pair read.new written.new ≡ mark (each reads a N) (pair read.old written.old)) }
+    requires room { HasRoom marks.old (a + N) }
+    ensures { (result ≡ number mem.now a N) × (marks.new ≡ marked (each reads a N) marks.old) }
 {
-    maps::read::<N>(read, written, a);
+    marks.read::<N>(a);
     memory::load::<N>(mem, a)
 }
 
 // The same by the width.
-fn take(mem: &[u8], read: &mut [u8], written: &mut [u8], a: usize, w: Width) -> u32
-    requires { (a + bytes w ≤ length mem.now) × Room read.old written.old (a + bytes w) }
-    ensures { (result ≡ number mem.now a (bytes w)) × (pair read.new written.new ≡ mark (each reads a (bytes w)) (pair read.old written.old)) }
+fn take(mem: &[u8], marks: &mut Marks, a: usize, w: Width) -> u32
+    requires { (a + bytes w ≤ length mem.now) × HasRoom marks.old (a + bytes w) }
+    ensures { (result ≡ number mem.now a (bytes w)) × (marks.new ≡ marked (each reads a (bytes w)) marks.old) }
 {
     match w {
-        Width::Byte => take_bytes::<1>(mem, read, written, a),
-        Width::Half => take_bytes::<2>(mem, read, written, a),
-        Width::Word => take_bytes::<4>(mem, read, written, a),
+        Width::Byte => take_bytes::<1>(mem, marks, a),
+        Width::Half => take_bytes::<2>(mem, marks, a),
+        Width::Word => take_bytes::<4>(mem, marks, a),
     }
 }
 
 // The number v into the N bytes at a, and their marks.
-fn give_bytes<const N: usize>(mem: &mut [u8], read: &mut [u8], written: &mut [u8], a: usize, v: u32)
+fn give_bytes<const N: usize>(mem: &mut [u8], marks: &mut Marks, a: usize, v: u32)
     requires width { N ≤ 4 }
     requires within { a + N ≤ length mem.old }
-    requires room { Room read.old written.old (a + N) }
-    ensures { (mem.new ≡ put mem.old a N v) × (pair read.new written.new ≡ mark (each stores a N) (pair read.old written.old)) }
+    requires room { HasRoom marks.old (a + N) }
+    ensures { (mem.new ≡ put mem.old a N v) × (marks.new ≡ marked (each stores a N) marks.old) }
 {
-    maps::store::<N>(read, written, a);
+    marks.store::<N>(a);
     memory::store::<N>(mem, a, v);
 }
 
 // The same by the width.
-fn give(mem: &mut [u8], read: &mut [u8], written: &mut [u8], a: usize, w: Width, v: u32)
-    requires { (a + bytes w ≤ length mem.old) × Room read.old written.old (a + bytes w) }
-    ensures { (mem.new ≡ put mem.old a (bytes w) v) × (pair read.new written.new ≡ mark (each stores a (bytes w)) (pair read.old written.old)) }
+fn give(mem: &mut [u8], marks: &mut Marks, a: usize, w: Width, v: u32)
+    requires { (a + bytes w ≤ length mem.old) × HasRoom marks.old (a + bytes w) }
+    ensures { (mem.new ≡ put mem.old a (bytes w) v) × (marks.new ≡ marked (each stores a (bytes w)) marks.old) }
 {
     match w {
-        Width::Byte => give_bytes::<1>(mem, read, written, a, v),
-        Width::Half => give_bytes::<2>(mem, read, written, a, v),
-        Width::Word => give_bytes::<4>(mem, read, written, a, v),
+        Width::Byte => give_bytes::<1>(mem, marks, a, v),
+        Width::Half => give_bytes::<2>(mem, marks, a, v),
+        Width::Word => give_bytes::<4>(mem, marks, a, v),
     }
 }
 
 fn load(
     mem: &mut [u8],
-    read: &mut [u8],
-    written: &mut [u8],
+    marks: &mut Marks,
     c: Core,
     dest: u32,
     at: u32,
     w: Width,
     sign: bool,
 ) -> Result<Change, Reason>
-    requires { Lent mem.old read.old written.old }
-    ensures { ended result mem.new read.new written.new ≡ after_end (loads (length mem.old) c dest at w sign) mem.old (pair read.old written.old) }
+    requires { LentWith mem.old marks.old }
+    ensures { ended result mem.new marks.new ≡ after_end (loads (length mem.old) c dest at w sign) mem.old marks.old }
 {
     let a = at as usize;
-    within(mem.len(), a, size(w), Reason::DataMisaligned, Reason::DataPast)?;
-    let v = take(mem, read, written, a, w);
+    within(
+        mem.len(),
+        a,
+        size(w),
+        Reason::DataMisaligned,
+        Reason::DataPast,
+    )?;
+    let v = take(mem, marks, a, w);
     Ok(rules::writes(dest, loaded(w, sign, v), rules::next(c)))
 }
 
 fn store(
     mem: &mut [u8],
-    read: &mut [u8],
-    written: &mut [u8],
+    marks: &mut Marks,
     c: Core,
     at: u32,
     w: Width,
     v: u32,
 ) -> Result<Change, Reason>
-    requires { Lent mem.old read.old written.old }
-    ensures { ended result mem.new read.new written.new ≡ after_end (stores_of (length mem.old) c at w v) mem.old (pair read.old written.old) }
+    requires { LentWith mem.old marks.old }
+    ensures { ended result mem.new marks.new ≡ after_end (stores_of (length mem.old) c at w v) mem.old marks.old }
 {
     let a = at as usize;
-    within(mem.len(), a, size(w), Reason::DataMisaligned, Reason::DataPast)?;
-    give(mem, read, written, a, w, v);
+    within(
+        mem.len(),
+        a,
+        size(w),
+        Reason::DataMisaligned,
+        Reason::DataPast,
+    )?;
+    give(mem, marks, a, w, v);
     Ok(rules::only(rules::next(c)))
 }
 
 // The instruction takes effect.
 fn finish(
     mem: &mut [u8],
-    read: &mut [u8],
-    written: &mut [u8],
+    marks: &mut Marks,
     regs: &Regs,
     s: Settings,
     lines: u32,
     c: Core,
     e: Effect,
 ) -> Result<Change, Reason>
-    requires { Lent mem.old read.old written.old }
-    ensures { ended result mem.new read.new written.new ≡ after_end (does s lines (length mem.old) regs.now.r c e) mem.old (pair read.old written.old) }
+    requires { LentWith mem.old marks.old }
+    ensures { ended result mem.new marks.new ≡ after_end (does s lines (length mem.old) regs.now.r c e) mem.old marks.old }
 {
     match e {
         Effect::Stop(reason) => Err(reason),
@@ -197,8 +206,8 @@ fn finish(
             at,
             width,
             sign,
-        } => load(mem, read, written, c, dest, at, width, sign),
-        Effect::Store { at, value, width } => store(mem, read, written, c, at, width, value),
+        } => load(mem, marks, c, dest, at, width, sign),
+        Effect::Store { at, value, width } => store(mem, marks, c, at, width, value),
         Effect::Read(d, n) => Ok(rules::writes(d, rules::control(s, lines, c, n), rules::next(c))),
         Effect::Write(n, v) => Ok(rules::only(rules::next(rules::set_control(c, n, v)))),
         Effect::Raise => Ok(rules::exception(s, c)),
@@ -228,15 +237,14 @@ fn executes(regs: &Regs, s: Settings, c: Core, w: u32) -> Effect
 // One attempted step.
 fn step(
     mem: &mut [u8],
-    read: &mut [u8],
-    written: &mut [u8],
+    marks: &mut Marks,
     regs: &Regs,
     s: Settings,
     lines: u32,
     c: Core,
 ) -> Result<Change, Reason>
-    requires { Lent mem.old read.old written.old }
-    ensures { ended result mem.new read.new written.new ≡ attempt_end (attempt s lines (length mem.old) regs.now.r c) mem.old (pair read.old written.old) }
+    requires { LentWith mem.old marks.old }
+    ensures { ended result mem.new marks.new ≡ attempt_end (attempt s lines (length mem.old) regs.now.r c) mem.old marks.old }
 {
     if rules::above(c) {
         return Err(Reason::Unsound);
@@ -246,26 +254,26 @@ fn step(
     }
     let at = c.pc as usize;
     within(mem.len(), at, 4, Reason::Misaligned, Reason::Past)?;
-    let w = take(mem, read, written, at, Width::Word);
+    let w = take(mem, marks, at, Width::Word);
     let e = executes(regs, s, c, w);
-    finish(mem, read, written, regs, s, lines, c, e)
+    finish(mem, marks, regs, s, lines, c, e)
 }
 
 // At most `budget` steps, until one stops.
 fn steps(
     mem: &mut [u8],
-    read: &mut [u8],
-    written: &mut [u8],
+    marks: &mut Marks,
     state: &mut State,
     s: Settings,
     lines: u32,
     budget: u32,
 ) -> Ran
-    requires { Lent mem.old read.old written.old }
-    ensures { ran result state.new mem.new read.new written.new ≡ answer (machine s lines (length mem.old)) budget state.old mem.old (pair read.old written.old) }
+    requires { LentWith mem.old marks.old }
+    ensures kept { Kept marks.old marks.new }
+    ensures ran { ran result state.new mem.new (maps_of marks.new) ≡ answer (machine s lines (length mem.old)) budget state.old mem.old (maps_of marks.old) }
 {
     for n in 0..budget {
-        match step(mem, read, written, &state.regs, s, lines, state.core) {
+        match step(mem, marks, &state.regs, s, lines, state.core) {
             Ok(change) => state.apply(change),
             Err(reason) => return Ran { reason, steps: n },
         }
@@ -405,7 +413,11 @@ pub fn run(
     ensures { answered result state.new mem.new read.new written.new ≡ run_of mem.old read.old written.old state.old s lines budget }
 {
     run_refusal(mem.len(), read.len(), written.len(), s, state, budget)?;
-    Ok(steps(mem, read, written, state, s, lines, budget))
+    let mut marks = Marks {
+        first: read,
+        written,
+    };
+    Ok(steps(mem, &mut marks, state, s, lines, budget))
 }
 
 // Whether an edit of the bytes of the range leaves the run as it is.

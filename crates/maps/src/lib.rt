@@ -5,6 +5,7 @@ ghost use Rattle.std.specs.Prelude.{◌≡◌, ◌+◌, ◌-◌, ◌*◌, ◌/�
 ghost use Rattle.trace.specs.Access.{reads, stores, each};
 ghost use Rattle.trace.specs.Maps.{bit, set_bit, mark};
 ghost use Rattle.maps.specs.Pair.{pair, Room, none_set};
+ghost use Rattle.maps.specs.Both.{HasRoom, marked};
 
 use std::ops::Range;
 
@@ -39,25 +40,34 @@ fn read_byte(first: &mut [u8], written: &mut [u8], k: usize)
     set_bit(first, k);
 }
 
-// The N bytes from k on are read.
-#[tactic(auto, using(crate::proofs::Spans::mark_more))]
-pub fn read<const N: usize>(first: &mut [u8], written: &mut [u8], k: usize)
-    requires { Room first.old written.old (k + N) }
-    ensures { pair first.new written.new ≡ mark (each reads k N) (pair first.old written.old) }
-{
-    for i in k..k + N {
-        read_byte(first, written, i);
-    }
+// The two lent maps.
+#[derive(Drop)]
+pub struct Marks<'a> {
+    pub first: &'a mut [u8],
+    pub written: &'a mut [u8],
 }
 
-// The N bytes from k on are stored to.
-#[tactic(auto, using(crate::proofs::Spans::mark_more))]
-pub fn store<const N: usize>(first: &mut [u8], written: &mut [u8], k: usize)
-    requires { Room first.old written.old (k + N) }
-    ensures { pair first.new written.new ≡ mark (each stores k N) (pair first.old written.old) }
-{
-    for i in k..k + N {
-        set_bit(written, i);
+impl<'a> Marks<'a> {
+    // The N bytes from k on are read.
+    #[tactic(auto, using(crate::proofs::Spans::mark_more))]
+    pub fn read<const N: usize>(&mut self, k: usize)
+        requires { HasRoom self.old (k + N) }
+        ensures { self.new ≡ marked (each reads k N) self.old }
+    {
+        for i in k..k + N {
+            read_byte(self.first, self.written, i);
+        }
+    }
+
+    // The N bytes from k on are stored to.
+    #[tactic(auto, using(crate::proofs::Spans::mark_more))]
+    pub fn store<const N: usize>(&mut self, k: usize)
+        requires { HasRoom self.old (k + N) }
+        ensures { self.new ≡ marked (each stores k N) self.old }
+    {
+        for i in k..k + N {
+            set_bit(self.written, i);
+        }
     }
 }
 

@@ -1,6 +1,6 @@
 -- The number of a refusal is small, so the number that answers an edit question fits a word.
 -- Assumes nothing.
-use Rattle.std.proofs.Common.{ℕ, ◌≤◌, arith}
+use Rattle.std.proofs.Common.{◌≤◌, arith}
 use Rattle.machine.specs.declared.Refusal.{Refusal}
 use Rattle.machine.specs.declared.Refusal.TheVariants.{BadMemory, BadMap, BadSettings, BadState, BadBudget, BadRange}
 use Rattle.machine.specs.Calls.{refusal_number}

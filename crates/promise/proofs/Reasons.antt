@@ -5,7 +5,7 @@ use mathlib.Core.Bool.{Bool, true, false, not, cond}
 use Prim.Native.Nat.{ℕ}
 use native.Mathlib.Omega.{arith}
 use lib.Dec.{ltb, eqb}
-use Rattle.word.specs.Word.{less_signed_of, less_of, mul_of, mulxuu_of, mulxss_of, mulxsu_of, divu_of, div_of}
+use Rattle.word.specs.Word.{less_signed_of, less_of, divu_of, div_of}
 use Rattle.word.specs.declared.Undefined.{Undefined}
 use Rattle.isa.specs.declared.Kind.{Kind}
 use Rattle.isa.specs.declared.Kind.TheVariants.{Call, Ldbu, Addi, Stb, Br, Ldb, Cmpgei, Ldhu, Andi, Sth, Bge, Ldh, Cmplti, Ori}

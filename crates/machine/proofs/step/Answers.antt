@@ -3,24 +3,28 @@
 use Rattle.std.proofs.Common.{◌+◌, sym, ◌∙◌, length}
 use Rattle.std.proofs.lemmas.Result.{err_from_is_err_and}
 use Rattle.state.specs.declared.Reason.TheVariants.{Misaligned, Past}
-use Rattle.machine.proofs.Rules.{room, not_past, ends_above, ends_interrupted, ends_barred, ends_fetched}
+use Rattle.trace.specs.Access.{reads, each}
+use Rattle.machine.proofs.Rules.{room, lent_on, not_past, ends_above, ends_interrupted, ends_barred, ends_fetched}
 use Rattle.machine.proofs.step.Goals as goal
 
 pub returns-then-above : goal.returns-then-above
-returns-then-above c = ends_above c.args.s c.args.lines c.args.regs.now.r c.args.c c.args.mem.now c.args.read.now c.args.written.now (sym c.above.ensures ∙ c.if-above.true)
+returns-then-above c = ends_above c.args.s c.args.lines c.args.regs.now.r c.args.c c.args.mem.now c.args.marks.now (sym c.above.ensures ∙ c.if-above.true)
 
 pub returns-then-interrupted : goal.returns-then-interrupted
-returns-then-interrupted c = ends_interrupted c.args.s c.args.lines c.args.regs.now.r c.args.c c.args.mem.now c.args.read.now c.args.written.now (sym c.above.ensures ∙ c.if-above.false) (sym c.interrupted.ensures ∙ c.if-interrupted.true) _ c.exception.ensures
+returns-then-interrupted c = ends_interrupted c.args.s c.args.lines c.args.regs.now.r c.args.c c.args.mem.now c.args.marks.now (sym c.above.ensures ∙ c.if-above.false) (sym c.interrupted.ensures ∙ c.if-interrupted.true) _ c.exception.ensures
 
 pub returns-in_err-within : goal.returns-in_err-within
 returns-in_err-within c =
     let p = err_from_is_err_and c.from_residual.result c.from_residual.ensures.1 in
-    rw (p.1, p.2) (ends_barred c.args.s c.args.lines c.args.regs.now.r c.args.c c.args.mem.now c.args.read.now c.args.written.now (sym c.above.ensures ∙ c.if-above.false) (sym c.interrupted.ensures ∙ c.if-interrupted.false) _ (sym c.in_err-within.was ∙ c.within.ensures))
+    rw (p.1, p.2) (ends_barred c.args.s c.args.lines c.args.regs.now.r c.args.c c.args.mem.now c.args.marks.now (sym c.above.ensures ∙ c.if-above.false) (sym c.interrupted.ensures ∙ c.if-interrupted.false) _ (sym c.in_err-within.was ∙ c.within.ensures))
 
 pub take-w-requires : goal.take-w-requires
 take-w-requires c =
     let h = not_past (length c.args.mem.now) c.args.c.pc 4 Misaligned Past _ (sym c.in_ok-within.was ∙ c.within.ensures) in
-    (h, room c.args.mem.now c.args.read.now c.args.written.now (c.args.c.pc + 4) c.requires h)
+    (h, room c.args.mem.now c.args.marks.now (c.args.c.pc + 4) c.requires h)
+
+pub finish-requires : goal.finish-requires
+finish-requires c = lent_on c.args.mem.now c.args.marks.now _ (each reads c.args.c.pc 4) c.take-w.ensures.1 c.requires
 
 pub returns : goal.returns
-returns c = ends_fetched c.args.s c.args.lines c.args.regs.now.r c.args.c c.args.mem.now c.args.read.now c.args.written.now (sym c.above.ensures ∙ c.if-above.false) (sym c.interrupted.ensures ∙ c.if-interrupted.false) _ (sym c.in_ok-within.was ∙ c.within.ensures) _ _ _ _ _ c.take-w.ensures.1 c.take-w.ensures.0 c.executes-e.ensures c.finish.ensures
+returns c = ends_fetched c.args.s c.args.lines c.args.regs.now.r c.args.c c.args.mem.now c.args.marks.now (sym c.above.ensures ∙ c.if-above.false) (sym c.interrupted.ensures ∙ c.if-interrupted.false) _ (sym c.in_ok-within.was ∙ c.within.ensures) _ _ _ _ c.take-w.ensures.1 c.take-w.ensures.0 c.executes-e.ensures c.finish.ensures

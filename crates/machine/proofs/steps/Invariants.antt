@@ -4,4 +4,4 @@ use Rattle.machine.proofs.Running.{Running}
 use Rattle.machine.proofs.steps.Given as goal
 
 abbrev pub invariant-loop-n : goal.invariant-loop-n
-invariant-loop-n l = Running l.s l.lines l.budget l.initial.mem l.initial.read l.initial.written l.initial.state l.mem l.read l.written l.state l.n
+invariant-loop-n l = Running l.s l.lines l.budget l.initial.mem l.initial.marks l.initial.state l.mem l.marks l.state l.n
