@@ -7,8 +7,8 @@ use Rattle.trace.specs.Via.{via, via_outcome}
 use Rattle.trace.proofs.Via.{perform_via, touched_via}
 use Rattle.trace.proofs.Loop.{Going, going_start, going_turn, going_stop, going_end}
 use Rattle.maps.specs.declared.Marks.{Marks}
-use Rattle.maps.specs.Both.{maps_of, marked, Kept}
-use Rattle.maps.proofs.Both.{kept_marked, kept_on}
+use Rattle.maps.specs.Both.{maps_of, marked}
+use Rattle.maps.proofs.Both.{Kept, kept_marked, kept_on}
 use Rattle.state.specs.declared.State.{State}
 use Rattle.state.specs.declared.Settings.{Settings}
 use Rattle.state.specs.declared.Change.{Change}

@@ -4,12 +4,13 @@
 ghost use Rattle.std.specs.Prelude.{◌≡◌, ◌+◌, ◌^◌, ◌<◌, ◌≤◌, length};
 ghost use Rattle.trace.specs.Access.{reads, stores, each, number, put};
 ghost use Rattle.trace.specs.Machine.{answer};
-ghost use Rattle.maps.specs.Both.{maps_of, marked, HasRoom, Kept};
+ghost use Rattle.maps.specs.Pair.{pair};
+ghost use Rattle.maps.specs.Both.{marked, HasRoom};
 ghost use Rattle.machine.specs.Step.{bytes, loaded as loaded_of};
 ghost use Rattle.machine.specs.Step.{loads, stores as stores_of, does, executes as executes_of, attempt, machine};
 ghost use Rattle.machine.specs.Ends.{ended, after_end, attempt_end, within_of};
 ghost use Rattle.machine.specs.Calls.{bad_memory, bad_map, bad_address, bad_settings, bad_state, bad_range, fresh_refusal, run_refusal, edit_refusal};
-ghost use Rattle.machine.specs.Calls.{refusal_number, refused, run_of, ran, numbers, answered, started, fresh_of, edit_of, told, bad_budget, LentWith};
+ghost use Rattle.machine.specs.Calls.{refusal_number, refused, run_of, ran, numbers, answered, started, fresh_of, edit_of, told, bad_budget, Lent, LentWith};
 
 use exec::{Effect, Width};
 use isa::Fields;
@@ -262,18 +263,22 @@ fn step(
 // At most `budget` steps, until one stops.
 fn steps(
     mem: &mut [u8],
-    marks: &mut Marks,
+    read: &mut [u8],
+    written: &mut [u8],
     state: &mut State,
     s: Settings,
     lines: u32,
     budget: u32,
 ) -> Ran
-    requires { LentWith mem.old marks.old }
-    ensures kept { Kept marks.old marks.new }
-    ensures ran { ran result state.new mem.new (maps_of marks.new) ≡ answer (machine s lines (length mem.old)) budget state.old mem.old (maps_of marks.old) }
+    requires { Lent mem.old read.old written.old }
+    ensures { ran result state.new mem.new (pair read.new written.new) ≡ answer (machine s lines (length mem.old)) budget state.old mem.old (pair read.old written.old) }
 {
+    let mut marks = Marks {
+        first: read,
+        written,
+    };
     for n in 0..budget {
-        match step(mem, marks, &state.regs, s, lines, state.core) {
+        match step(mem, &mut marks, &state.regs, s, lines, state.core) {
             Ok(change) => state.apply(change),
             Err(reason) => return Ran { reason, steps: n },
         }
@@ -413,11 +418,7 @@ pub fn run(
     ensures { answered result state.new mem.new read.new written.new ≡ run_of mem.old read.old written.old state.old s lines budget }
 {
     run_refusal(mem.len(), read.len(), written.len(), s, state, budget)?;
-    let mut marks = Marks {
-        first: read,
-        written,
-    };
-    Ok(steps(mem, &mut marks, state, s, lines, budget))
+    Ok(steps(mem, read, written, state, s, lines, budget))
 }
 
 // Whether an edit of the bytes of the range leaves the run as it is.

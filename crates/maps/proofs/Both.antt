@@ -1,11 +1,17 @@
 -- A `Marks` in which accesses are marked holds the slices that it held.
 -- Assumes nothing.
-use mathlib.Core.Path.{◌≡◌, refl, ◌∙◌}
-use mathlib.Core.List.{List}
+use Rattle.std.proofs.Common.{◌≡◌, refl, ◌∙◌, List, length}
 use Rattle.trace.specs.Access.{Access}
 use Rattle.trace.proofs.Marks.{mark-lengths}
 use Rattle.maps.specs.declared.Marks.{Marks}
-use Rattle.maps.specs.Both.{maps_of, marked, Kept}
+use Rattle.maps.specs.Both.{maps_of, marked}
+
+-- n holds the slices that m holds
+pub record Kept (m n : Marks) : Type 0 where
+  pub first : n.first.ghost_name ≡ m.first.ghost_name
+  pub written : n.written.ghost_name ≡ m.written.ghost_name
+  pub first_length : length n.first.now ≡ length m.first.now
+  pub written_length : length n.written.now ≡ length m.written.now
 
 pub kept_marked : (l : List Access) (m n : Marks) → n ≡ marked l m → Kept m n
 kept_marked l m n e = rw (e) (record { first = refl; written = refl; first_length = (mark-lengths l (maps_of m)).read_first; written_length = (mark-lengths l (maps_of m)).written })

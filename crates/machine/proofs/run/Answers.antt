@@ -1,6 +1,6 @@
 -- `machine::run` meets its contract: a refusal, else the steps.
 -- Assumes nothing.
-use Rattle.std.proofs.Common.{rules, sym, ap, ◌∙◌}
+use Rattle.std.proofs.Common.{sym, ap, ◌∙◌}
 use Rattle.std.proofs.lemmas.Result.{err_from_is_err_and}
 use Rattle.machine.specs.Calls.{refused}
 use Rattle.machine.proofs.Accepted.{some, lent, run_refused, run_accepted}
@@ -15,6 +15,4 @@ pub steps-requires : goal.steps-requires
 steps-requires c = lent c.args.mem.now c.args.read.now c.args.written.now c.args.s c.args.state.now c.args.budget (sym c.run_refusal.ensures ∙ ap refused c.in_ok-run_refusal.was)
 
 pub returns : goal.returns
-returns c =
-    let e = c.steps.ensures.ran ∙ run_accepted c.args.mem.now c.args.read.now c.args.written.now c.args.state.now c.args.s c.args.lines c.args.budget _ (sym (ap refused c.in_ok-run_refusal.was) ∙ c.run_refusal.ensures) (λ i. 0) in
-    search (rules, e)
+returns c = c.steps.ensures ∙ run_accepted c.args.mem.now c.args.read.now c.args.written.now c.args.state.now c.args.s c.args.lines c.args.budget _ (sym (ap refused c.in_ok-run_refusal.was) ∙ c.run_refusal.ensures) (λ i. 0)

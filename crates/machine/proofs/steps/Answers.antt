@@ -1,13 +1,14 @@
--- `machine::steps` meets its contract: the loop's invariant is `Running`.
+-- `machine::steps` meets its contract: the loop's invariant is `Running`. The slices that `Marks` holds are joined to those lent by their names.
 -- Assumes nothing.
+use Rattle.std.proofs.Common.{rules}
 use Rattle.machine.proofs.Running.{stops, stops_kept, turns}
 use Rattle.machine.proofs.steps.Goals as goal
 
-pub returns-in-Err-clause-ran : goal.returns-in-Err-clause-ran
-returns-in-Err-clause-ran c = stops c.args.s c.args.lines c.args.budget c.args.mem.now c.args.marks.now c.args.state.now c.loop-n.invariant _ _ _ c.loop-n-test.true c.step.ensures _ c.in-Err.is
-
-pub returns-in-Err-clause-kept : goal.returns-in-Err-clause-kept
-returns-in-Err-clause-kept c = stops_kept c.args.s c.args.lines c.args.budget c.args.mem.now c.args.marks.now c.args.state.now c.loop-n.invariant _ _ _ c.loop-n-test.true c.step.ensures
+pub returns-in-Err : goal.returns-in-Err
+returns-in-Err c =
+    let e = stops c.args.s c.args.lines c.args.budget c.args.mem.now _ c.args.state.now c.loop-n.invariant _ _ _ c.loop-n-test.true c.step.ensures _ c.in-Err.is in
+    let k = stops_kept c.args.s c.args.lines c.args.budget c.args.mem.now _ c.args.state.now c.loop-n.invariant _ _ _ c.loop-n-test.true c.step.ensures in
+    search (rules, e, k)
 
 pub loop-n-preserved : goal.loop-n-preserved
-loop-n-preserved c = turns c.args.s c.args.lines c.args.budget c.args.mem.now c.args.marks.now c.args.state.now c.loop-n.invariant _ _ _ c.loop-n-test.true c.step.ensures _ _ c.in-Ok.is c.apply.ensures c.step.auto.mem
+loop-n-preserved c = turns c.args.s c.args.lines c.args.budget c.args.mem.now _ c.args.state.now c.loop-n.invariant _ _ _ c.loop-n-test.true c.step.ensures _ _ c.in-Ok.is c.apply.ensures c.step.auto.mem
