@@ -42,7 +42,8 @@ impl Page {
     }
 
     pub fn as_bytes(&self) -> &[u8]
-        ensures { result.now ≡ self.now }
+        ensures text { result.now ≡ self.now }
+        ensures room { length result.now ≤ 1024 }
     {
         self.string.as_str().as_bytes()
     }
