@@ -41,7 +41,7 @@ pub enum Effect {
         value: u32,
         width: Width,
     },
-    // a register takes a control register; pc + 4
+    // a register takes a control register, which stays a number: `rules::control` answers for any; pc + 4
     Read(u32, u32),
     // a control register takes a value; pc + 4
     Write(u32, u32),

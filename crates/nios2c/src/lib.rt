@@ -19,7 +19,7 @@ fn taken(state: &[u32], settings: &[u32]) -> Option<(State, Settings)>
     Some((State::from(state), Settings::from(settings)))
 }
 
-// 1 for yes, 0 for no, and from 257 on a refusal.
+// A number, for C: 1 for yes, 0 for no, and from 257 on a refusal.
 #[tactic(auto, using(crate::proofs::Calls::small))]
 fn number(asked: Result<bool, Refusal>) -> u32
     ensures { result ≡ number_of (told asked) }

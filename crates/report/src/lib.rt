@@ -27,8 +27,7 @@ fn glyph(n: u8) -> char
     requires { n < 16 }
     ensures { result ≡ digit n }
 {
-    let d = if n < 10 { b'0' + n } else { b'A' + (n - 10) };
-    d as char
+    char::from(if n < 10 { b'0' + n } else { b'A' + (n - 10) })
 }
 
 // Each writer asks that there is room for what it appends.
@@ -85,7 +84,7 @@ impl Page {
         }
     }
 
-    // A text and a number.
+    // A text and a number: a usize, which any of the program's fits, and which `as` makes of a u32, for want of a From.
     #[tactic(auto, using(crate::proofs::Room::room, crate::proofs::Digits::decimal_short))]
     fn labelled(&mut self, s: &str, n: usize)
         requires { length self.old + length s.now + 20 ≤ 1024 }
@@ -170,7 +169,7 @@ impl Page {
     }
 }
 
-// The lines of an accepted call. `read` and `written` are the set bits of the two maps.
+// The lines of an accepted call. `read` and `written` are the set bits of the two maps. The reason is a number: any is printed, as before.
 #[tactic(auto, using(std::proofs::Common::append_assoc), unfolding(crate::specs::Lines::lines_of))]
 pub fn report(reason: u32, steps: u32, s: &State, read: usize, written: usize) -> Page
     ensures { result ≡ lines_of reason steps s.now read written }

@@ -57,7 +57,7 @@ pub fn writes(dest: u32, value: u32, c: Core) -> Change
     }
 }
 
-// ---- exceptions, and the ways back
+// ---- exceptions, and the ways back: in pairs that differ in two words of the state each, and one line is plainer than parameters for those
 
 pub fn exception(s: Settings, c: Core) -> Change
     ensures { result ≡ exception_of s c }
@@ -85,7 +85,7 @@ pub fn bret(regs: &Regs, c: Core) -> Change
     only(c.with_status(c.bstatus).with_pc(regs.get(30)))
 }
 
-// ---- control registers
+// ---- control registers: by number, since an enum would ask more of a caller than these do
 
 pub fn control(s: Settings, lines: u32, c: Core, n: u32) -> u32
     ensures { result ≡ control_of s lines c n }

@@ -79,7 +79,7 @@ impl Reason {
     }
 }
 
-// ---- the rest of the state, one word at a time
+// ---- the rest of the state, one word at a time: a method for each, since no parameter can name a field
 
 impl Core {
     pub fn with_pc(self, pc: u32) -> Self
