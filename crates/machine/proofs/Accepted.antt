@@ -178,3 +178,6 @@ start_number len read written s S = number (fresh_refusal len (length read) (len
     number : (n : ℕ) → (unless_started n read written s S).number ≡ n
     number zero = refl
     number (suc n) = refl
+
+-- what the three calls are proved by
+pub ruleset calls = (some, lent, run_refused, run_accepted, fresh_refused, fresh_accepted, ranged, edit_refused, edit_asked)

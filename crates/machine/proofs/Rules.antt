@@ -117,6 +117,11 @@ module _ (m : List ℕ) (p : Marks) (c : Core) (a : ℕ) (w : Width) (n : ℕ) (
   store_makes y e v core h m' p' ev em ec eh =
       rw (within_goes y e _, eh, ec, ev) (ap (λ q. record { turn = Ok (only (next c)); memory = put m a (bytes w) v; marks = q }) em)
 
+-- what a load and a store are proved by
+pub ruleset loading = (bytes_range, inside, room, load_stops, load_makes)
+
+pub ruleset storing = (bytes_range, inside, room, store_stops, store_makes)
+
 -- ---- a whole attempt, by the first rule that holds
 
 module _ (S : Settings) (lines : ℕ) (r : List ℕ) (c : Core) (m : List ℕ) (p : Marks) where

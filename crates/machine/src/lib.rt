@@ -136,6 +136,7 @@ fn give(mem: &mut [u8], marks: &mut Marks, a: usize, w: Width, v: u32)
     }
 }
 
+#[tactic(auto, using(crate::proofs::Rules::loading))]
 fn load(
     mem: &mut [u8],
     marks: &mut Marks,
@@ -160,6 +161,7 @@ fn load(
     Ok(rules::writes(dest, loaded(w, sign, v), rules::next(c)))
 }
 
+#[tactic(auto, using(crate::proofs::Rules::storing))]
 fn store(
     mem: &mut [u8],
     marks: &mut Marks,
@@ -184,6 +186,7 @@ fn store(
 }
 
 // The instruction takes effect.
+#[tactic(auto, unfolding(crate::specs::Ends::after_end))]
 fn finish(
     mem: &mut [u8],
     marks: &mut Marks,
@@ -334,6 +337,7 @@ fn bad_budget(budget: u32) -> bool
 }
 
 // A fresh start uses 1 to 3.
+#[tactic(auto, unfolding(crate::specs::Calls::fresh_refusal))]
 fn fresh_refusal(len: usize, read: usize, written: usize, s: Settings) -> Result<(), Refusal>
     ensures { refused result ≡ fresh_refusal len read written s }
 {
@@ -371,6 +375,7 @@ fn run_refusal(
 }
 
 // The edit question uses 1, 2 and 6.
+#[tactic(auto, unfolding(crate::specs::Calls::edit_refusal))]
 fn edit_refusal(len: usize, read: usize, range: &Range<usize>) -> Result<(), Refusal>
     ensures { refused result ≡ edit_refusal len read range.now.start range.now.end }
 {
@@ -389,6 +394,7 @@ fn edit_refusal(len: usize, read: usize, range: &Range<usize>) -> Result<(), Ref
 // ---- the calls
 
 // A fresh start: zero in all registers, pc at the reset address, both maps cleared.
+#[tactic(auto, using(crate::proofs::Accepted::calls))]
 pub fn fresh(
     mem: &[u8],
     read: &mut [u8],
@@ -406,6 +412,7 @@ pub fn fresh(
 }
 
 // A run of at most `budget` steps, with the lines held.
+#[tactic(auto, using(crate::proofs::Accepted::calls))]
 pub fn run(
     mem: &mut [u8],
     read: &mut [u8],
@@ -422,6 +429,7 @@ pub fn run(
 }
 
 // Whether an edit of the bytes of the range leaves the run as it is.
+#[tactic(auto, using(crate::proofs::Accepted::calls))]
 pub fn edit(len: usize, read: &[u8], range: Range<usize>) -> Result<bool, Refusal>
     ensures { told result ≡ edit_of len read.now range.start range.end }
 {
