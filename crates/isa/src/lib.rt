@@ -234,6 +234,7 @@ const OPX: &[Option<Kind>; 64] = &[
 pub fn decode(word: u32) -> Option<Kind>
     ensures { result ≡ kind_of word }
 {
+    // as an index by `as`, since a usize has no From of a u32
     let op = word % 64;
     if op == 0x3a {
         OPX[(word / 0x800 % 64) as usize]

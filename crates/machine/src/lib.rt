@@ -149,6 +149,7 @@ fn load(
     requires { LentWith mem.old marks.old }
     ensures { ended result mem.new marks.new ≡ after_end (loads (length mem.old) c dest at w sign) mem.old marks.old }
 {
+    // here and below by `as`, since a usize has no From of a u32
     let a = at as usize;
     within(
         mem.len(),
@@ -185,7 +186,7 @@ fn store(
     Ok(rules::only(rules::next(c)))
 }
 
-// The instruction takes effect.
+// The instruction takes effect. Settings and lines come apart, here and above: `rules` asks for the one or the other.
 #[tactic(auto, unfolding(crate::specs::Ends::after_end))]
 fn finish(
     mem: &mut [u8],
@@ -263,7 +264,7 @@ fn step(
     finish(mem, marks, regs, s, lines, c, e)
 }
 
-// At most `budget` steps, until one stops.
+// At most `budget` steps, until one stops. For these the two maps are one value.
 fn steps(
     mem: &mut [u8],
     read: &mut [u8],
@@ -391,7 +392,7 @@ fn edit_refusal(len: usize, read: usize, range: &Range<usize>) -> Result<(), Ref
     Ok(())
 }
 
-// ---- the calls
+// ---- the calls: memory and maps are slices, as C lends them, and the promises name each
 
 // A fresh start: zero in all registers, pc at the reset address, both maps cleared.
 #[tactic(auto, using(crate::proofs::Accepted::calls))]

@@ -28,7 +28,8 @@ fn set_bit(map: &mut [u8], k: usize)
     map[k / 8] |= 1u8 << (k % 8);
 }
 
-// The byte k is read: that leaves no mark where it was stored to before.
+// The byte k is read: that leaves no mark where it was stored to before. The slices come apart: of a field that is passed on as a slice the
+// proof would not know the elements.
 #[tactic(auto, using(crate::proofs::Spans::read_written, crate::proofs::Spans::read_new))]
 fn read_byte(first: &mut [u8], written: &mut [u8], k: usize)
     requires { Room first.old written.old (k + 1) }
@@ -40,7 +41,7 @@ fn read_byte(first: &mut [u8], written: &mut [u8], k: usize)
     set_bit(first, k);
 }
 
-// The two lent maps.
+// The two lent maps. Each method asks for room at its addresses, which is no fact of the maps alone, and so not of the type.
 #[derive(Drop)]
 pub struct Marks<'a> {
     pub first: &'a mut [u8],

@@ -88,6 +88,7 @@ pub extern "C" fn nios2_run(
 pub extern "C" fn nios2_edit(memory_length: u64, read: &[u8], start: u64, end: u64) -> u32
     ensures { result ≡ edit_words memory_length read.now start end }
 {
+    // C's 64-bit numbers by `as`, since a usize has no From of a u64
     let range = start as usize..end as usize;
     number(machine::edit(memory_length as usize, read, range))
 }

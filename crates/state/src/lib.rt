@@ -116,7 +116,7 @@ impl Core {
 // ---- registers
 
 impl Regs {
-    // Register i modulo 32.
+    // Register i modulo 32. Here and below the index is made by `as`, since a usize has no From of a u32.
     pub fn get(&self, i: u32) -> u32
         ensures { result ≡ read_reg self.now.r i }
     {

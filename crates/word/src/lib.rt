@@ -72,7 +72,7 @@ pub fn flag(c: bool) -> u32
     u32::from(c)
 }
 
-// Bits 63..32.
+// Bits 63..32, by `as`: a u32 has no From of a u64.
 fn upper(z: i64) -> u32
     ensures { result ≡ upper_of z }
 {
