@@ -1,8 +1,9 @@
 -- How a step in code tells its outcome: a change or a reason, and what it leaves in the lent slices.
 -- Assumes nothing.
-use Rattle.std.specs.Prelude.{cond, List, ℕ, ◌+◌, ◌%◌, eqb, leb, Result, Ok, Err}
-use Rattle.maps.specs.declared.Marks.{Marks}
+use Rattle.std.specs.Prelude.{◌≡◌, cond, List, ℕ, ◌+◌, ◌%◌, eqb, leb, Result, Ok, Err}
+use Rattle.trace.specs.Access.{Access}
 use Rattle.maps.specs.Both.{marked}
+use Rattle.machine.specs.declared.Slices.{Slices}
 use Rattle.state.specs.declared.Change.{Change}
 use Rattle.state.specs.declared.Reason.{Reason}
 use Rattle.state.specs.State.{reason_number}
@@ -25,17 +26,27 @@ abbrev pub memory_of : List ℕ → Outcome ℕ Change → List ℕ
 memory_of m (stopped n) = m
 memory_of m (stepped c n) = n
 
+-- the same slices, with the bytes m in memory and the accesses of a list marked in the maps
+abbrev pub left : Slices → List ℕ → List Access → Slices
+left h m l = record { mem = record h.mem { now = m }; marks = record h.marks { now = marked l h.marks.now } }
+
 pub record End : Type 0 where
   pub turn : Result Change ℕ
-  pub memory : List ℕ
-  pub marks : Marks
+  pub slices : Slices
 
-abbrev pub ended : Result Change Reason → List ℕ → Marks → End
-ended t m p = record { turn = numbered t; memory = m; marks = p }
+abbrev pub ended : Result Change Reason → Slices → End
+ended t h = record { turn = numbered t; slices = h }
 
 -- what follows the fetch, and a whole attempt
-unfoldable pub after_end : After ℕ Change → List ℕ → Marks → End
-after_end F m p = record { turn = turn_of (finish F m); memory = memory_of m (finish F m); marks = marked (data_of F) p }
+unfoldable pub after_end : After ℕ Change → Slices → End
+after_end F h = record { turn = turn_of (finish F h.mem.now); slices = left h (memory_of h.mem.now (finish F h.mem.now)) (data_of F) }
 
-unfoldable pub attempt_end : Attempt ℕ Change → List ℕ → Marks → End
-attempt_end A m p = record { turn = turn_of (perform A m); memory = memory_of m (perform A m); marks = marked (touched A m) p }
+unfoldable pub attempt_end : Attempt ℕ Change → Slices → End
+attempt_end A h = record { turn = turn_of (perform A h.mem.now); slices = left h (memory_of h.mem.now (perform A h.mem.now)) (touched A h.mem.now) }
+
+-- h is lent what h₀ was, with as many bytes in memory
+pub record Held (h₀ h : Slices) : Type 0 where
+  pub memory : h.mem.ghost_name ≡ h₀.mem.ghost_name
+  pub maps : h.marks.ghost_name ≡ h₀.marks.ghost_name
+  pub first : h.marks.now.first.ghost_name ≡ h₀.marks.now.first.ghost_name
+  pub written : h.marks.now.written.ghost_name ≡ h₀.marks.now.written.ghost_name

@@ -1,7 +1,7 @@
--- `machine::finish` meets its contract: each effect by the functions that carry it out.
+-- `machine::Slices::finish` meets its contract: each effect by the functions that carry it out.
 -- Assumes nothing.
 use Rattle.machine.specs.Ends.{after_end}
-use Rattle.machine.proofs.finish.Goals as goal
+use Rattle.machine.proofs.Slices.finish.Goals as goal
 
 pub returns-in-Stop : goal.returns-in-Stop
 unfolding after_end
