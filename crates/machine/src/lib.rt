@@ -124,6 +124,7 @@ impl Slices<'_, '_, '_> {
     }
 
     // The same, and their marks.
+    #[inline(always)]
     fn take_bytes<const N: usize>(&mut self, a: usize) -> u32
         requires width { N ≤ 4 }
         requires within { a + N ≤ length self.old.mem.now }
@@ -135,6 +136,7 @@ impl Slices<'_, '_, '_> {
     }
 
     // The same by the width.
+    #[inline(always)]
     fn take(&mut self, a: usize, w: Width) -> u32
         requires { (a + bytes w ≤ length self.old.mem.now) × HasRoom self.old.marks.now (a + bytes w) }
         ensures { (result ≡ number self.old.mem.now a (bytes w)) × (self.new ≡ left self.old self.old.mem.now (each reads a (bytes w))) }
