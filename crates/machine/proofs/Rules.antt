@@ -5,8 +5,10 @@ use borrow.Author.Tests.{leb-true}
 use lib.Dec.{eqb, leb}
 use Rattle.trace.specs.Access.{Access, reads, stores, each, number, put}
 use Rattle.trace.specs.Machine.{After, stop, Attempt, halt, fetch}
-use Rattle.maps.specs.Both.{HasRoom}
+use Rattle.maps.specs.declared.Marks.{Marks}
+use Rattle.maps.specs.Both.{HasRoom, marked}
 use Rattle.maps.proofs.Both.{kept_marked}
+use Rattle.machine.specs.Calls.{Lent}
 use Rattle.exec.specs.declared.Width.{Width}
 use Rattle.exec.specs.declared.Width.TheVariants.{Byte, Half, Word}
 use Rattle.exec.specs.declared.Effect.{Effect}
@@ -18,10 +20,9 @@ use Rattle.state.specs.declared.Reason.TheVariants.{Misaligned, Past, DataMisali
 use Rattle.state.specs.State.{reason_number}
 use Rattle.rules.specs.Rules.{above, interrupted, exception, next, only, writes}
 use Rattle.machine.specs.Step as step
-use Rattle.machine.specs.Step.{bytes, loaded, within}
+use Rattle.machine.specs.Step.{bytes, loaded, within, within_of}
 use Rattle.machine.specs.declared.Slices.{Slices}
-use Rattle.machine.specs.Ends.{left, End, ended, after_end, attempt_end, within_of}
-use Rattle.machine.specs.Calls.{Fits}
+use Rattle.machine.specs.Ends.{Parts, left, End, ended, after_end, attempt_end}
 
 -- ---- the two tests in order, by what the code's test hands back
 
@@ -64,19 +65,18 @@ bytes_range Byte = (omega arith, omega arith)
 bytes_range Half = (omega arith, omega arith)
 bytes_range Word = (omega arith, omega arith)
 
-pub room : (h : Slices) (n : ℕ) → Fits h → n ≤ length h.mem.now → HasRoom h.marks.now n
-room h n f g = record { of_first = omega (arith, f.of_read, g); of_written = omega (arith, f.of_written, g); small = omega (arith, f.size, g) }
+pub room : (h : Slices) (n : ℕ) → n ≤ length h.mem.now → HasRoom h.marks.now n
+room h n g = record { of_first = omega (arith, h.fits.of_read, g); of_written = omega (arith, h.fits.of_written, g); small = omega (arith, h.fits.size, g) }
 
 -- and after marks
-pub fits_on : (h h' : Slices) (l : List Access) → h' ≡ left h h.mem.now l → Fits h → Fits h'
-fits_on h h' l e f =
-    let k = kept_marked l h.marks.now h'.marks.now (ap (λ (x : Slices). x.marks.now) e) in
-    let q : length h'.mem.now ≡ length h.mem.now = ap (λ (x : Slices). length x.mem.now) e in
-    record { size = omega (arith, f.size, q); of_read = omega (arith, f.of_read, k.first_length, q); of_written = omega (arith, f.of_written, k.written_length, q) }
+pub still_lent : (m : List ℕ) (p p' : Marks) (l : List Access) → p' ≡ marked l p → Lent m p.first.now p.written.now → Lent m p'.first.now p'.written.now
+still_lent m p p' l e h =
+    let k = kept_marked l p p' e in
+    record { size = h.size; of_read = omega (arith, h.of_read, k.first_length); of_written = omega (arith, h.of_written, k.written_length) }
 
 -- ---- loads and stores
 
-module _ (u : Slices) (c : Core) (a : ℕ) (w : Width) (n : ℕ) (size : n ≡ bytes w) where
+module _ (u : Parts) (c : Core) (a : ℕ) (w : Width) (n : ℕ) (size : n ≡ bytes w) where
   abbrev Tested : Result (Unit {0}) Reason → Type 0
   Tested t = t ≡ within_of (length u.mem.now) a n DataMisaligned DataPast
 
@@ -102,7 +102,7 @@ module _ (u : Slices) (c : Core) (a : ℕ) (w : Width) (n : ℕ) (size : n ≡ b
   unfolding after_end
   store_stops r e v = rw (within_stops r e _)
 
-  pub load_makes : (y : Unit {0}) → Tested (Ok y) → (d : ℕ) (s : Bool) (v x : ℕ) (core : Core) (h : Change) (u' : Slices)
+  pub load_makes : (y : Unit {0}) → Tested (Ok y) → (d : ℕ) (s : Bool) (v x : ℕ) (core : Core) (h : Change) (u' : Parts)
       → v ≡ number u.mem.now a (bytes w) → u' ≡ left u u.mem.now (each reads a (bytes w))
       → x ≡ loaded w s v → core ≡ next c → h ≡ writes d x core
       → ended (Ok h) u' ≡ after_end (step.loads (length u.mem.now) c d a w s) u
@@ -110,7 +110,7 @@ module _ (u : Slices) (c : Core) (a : ℕ) (w : Width) (n : ℕ) (size : n ≡ b
   load_makes y e d s v x core h u' ev em ex ec eh =
       rw (within_goes y e _, eh, ec, ex, ev) (ap (λ q. record { turn = Ok (writes d (loaded w s (number u.mem.now a (bytes w))) (next c)); slices = q }) em)
 
-  pub store_makes : (y : Unit {0}) → Tested (Ok y) → (v : ℕ) (core : Core) (h : Change) (u' : Slices)
+  pub store_makes : (y : Unit {0}) → Tested (Ok y) → (v : ℕ) (core : Core) (h : Change) (u' : Parts)
       → u' ≡ left u (put u.mem.now a (bytes w) v) (each stores a (bytes w))
       → core ≡ next c → h ≡ only core
       → ended (Ok h) u' ≡ after_end (step.stores (length u.mem.now) c a w v) u
@@ -120,7 +120,7 @@ module _ (u : Slices) (c : Core) (a : ℕ) (w : Width) (n : ℕ) (size : n ≡ b
 
 -- ---- a whole attempt, by the first rule that holds
 
-module _ (S : Settings) (lines : ℕ) (r : List ℕ) (c : Core) (u : Slices) where
+module _ (S : Settings) (lines : ℕ) (r : List ℕ) (c : Core) (u : Parts) where
   abbrev Goal : End → Type 0
   Goal x = x ≡ attempt_end (step.attempt S lines (length u.mem.now) r c) u
 
@@ -150,12 +150,12 @@ module _ (S : Settings) (lines : ℕ) (r : List ℕ) (c : Core) (u : Slices) whe
       unfolding attempt_end
       ends_barred k e = sym (known (halt (reason_number k)) (by_address _ (barred (length u.mem.now) c.pc 4 Misaligned Past fetches halt k e)))
 
-      pub ends_fetched : (y : Unit {0}) → Ok y ≡ within_of (length u.mem.now) c.pc 4 Misaligned Past → (w : ℕ) (x : Effect) (u' : Slices) (z : End)
+      pub ends_fetched : (y : Unit {0}) → Ok y ≡ within_of (length u.mem.now) c.pc 4 Misaligned Past → (w : ℕ) (x : Effect) (u' : Parts) (z : End)
           → u' ≡ left u u.mem.now (each reads c.pc 4) → w ≡ number u.mem.now c.pc 4 → x ≡ step.executes S r c w
           → z ≡ after_end (step.does S lines (length u.mem.now) r c x) u' → Goal z
       unfolding attempt_end after_end fetches
       ends_fetched y e w x u' z em ew ex ez =
           ez
           ∙ ap (λ (y : Effect). after_end (step.does S lines (length u.mem.now) r c y) u') ex
-          ∙ ap₂ (λ (y : ℕ) (q : Slices). after_end (step.does S lines (length u.mem.now) r c (step.executes S r c y)) q) ew em
+          ∙ ap₂ (λ (y : ℕ) (q : Parts). after_end (step.does S lines (length u.mem.now) r c (step.executes S r c y)) q) ew em
           ∙ sym (known fetches (by_address _ (open_to (length u.mem.now) c.pc 4 Misaligned Past fetches halt y e)))

@@ -18,8 +18,8 @@ use Rattle.state.specs.declared.Reason.TheVariants.{Spent}
 use Rattle.state.specs.State.{reason_number, changed}
 use Rattle.machine.specs.Step.{attempt, machine}
 use Rattle.machine.specs.declared.Slices.{Slices}
-use Rattle.machine.specs.Ends.{Held, left, numbered, turn_of, memory_of, End, ended, attempt_end}
-use Rattle.machine.specs.Calls.{Lent, Fits, ran}
+use Rattle.machine.specs.Ends.{Parts, parts, Held, left, numbered, turn_of, memory_of, End, ended, attempt_end}
+use Rattle.machine.specs.Calls.{ran}
 
 -- and the slices' lengths stay
 pub record Lengths (h₀ h : Slices) : Type 0 where
@@ -30,7 +30,6 @@ pub record Lengths (h₀ h : Slices) : Type 0 where
 
 -- from h₀ and s₀, i steps of the budget are made
 pub record Running (S : Settings) (lines budget : ℕ) (h₀ : Slices) (s₀ : State) (h : Slices) (s : State) (i : ℕ) : Type 0 where
-  pub fits : Fits h
   pub held : Lengths h₀ h
   pub going : Going (machine S lines (length h₀.mem.now)) budget (answer (machine S lines (length h₀.mem.now)) budget s₀ h₀.mem.now (maps_of h₀.marks.now)) i s h.mem.now (maps_of h.marks.now)
 
@@ -61,9 +60,8 @@ module _ (S : Settings) (lines budget : ℕ) (h₀ : Slices) (s₀ : State) wher
   abbrev Whole : Answer ℕ State → Type 0
   Whole x = x ≡ answer M budget s₀ h₀.mem.now (maps_of h₀.marks.now)
 
-  pub start : Fits h₀ → Running S lines budget h₀ s₀ h₀ s₀ 0
-  start l = record {
-    fits = l;
+  pub start : Running S lines budget h₀ s₀ h₀ s₀ 0
+  start = record {
     held = record { names = record { memory = refl; maps = refl; first = refl; written = refl }; memory = refl; first = refl; written = refl };
     going = going_start M budget s₀ h₀.mem.now (maps_of h₀.marks.now);
   }
@@ -75,37 +73,37 @@ module _ (S : Settings) (lines budget : ℕ) (h₀ : Slices) (s₀ : State) wher
         (λ j. record { reason = 0; steps = e j; config = s; memory = h.mem.now; maps = maps_of h.marks.now }) ∙ sym (going_end M budget g.going b)
 
     module _ (t : Result Change Reason) (h' : Slices) (b : i < budget)
-        (e : ended t h' ≡ attempt_end (attempt S lines (length h.mem.now) s.regs.r s.core) h) where
+        (e : ended t (parts h') ≡ attempt_end (attempt S lines (length h.mem.now) s.regs.r s.core) (parts h)) where
       -- the attempt, by the length that the run began with
       A : Attempt ℕ Change
       A = attempt S lines (length h₀.mem.now) s.regs.r s.core
 
-      end : ended t h' ≡ attempt_end A h
+      end : ended t (parts h') ≡ attempt_end A (parts h)
       unfolding A
-      end = e ∙ ap (λ (n : ℕ). attempt_end (attempt S lines n s.regs.r s.core) h) g.held.memory
+      end = e ∙ ap (λ (n : ℕ). attempt_end (attempt S lines n s.regs.r s.core) (parts h)) g.held.memory
 
       turn_is : numbered t ≡ turn_of (perform A h.mem.now)
       unfolding attempt_end
       turn_is = ap (λ (x : End). x.turn) end
 
-      slices_are : h' ≡ left h (memory_of h.mem.now (perform A h.mem.now)) (touched (via (changed s) A) h.mem.now)
+      slices_are : parts h' ≡ left (parts h) (memory_of h.mem.now (perform A h.mem.now)) (touched (via (changed s) A) h.mem.now)
       unfolding attempt_end
-      slices_are = ap (λ (x : End). x.slices) end ∙ ap (left h (memory_of h.mem.now (perform A h.mem.now))) (sym (touched_via (changed s) h.mem.now A))
+      slices_are = ap (λ (x : End). x.slices) end ∙ ap (left (parts h) (memory_of h.mem.now (perform A h.mem.now))) (sym (touched_via (changed s) h.mem.now A))
 
       memory_is : h'.mem.now ≡ memory_of h.mem.now (perform A h.mem.now)
-      memory_is = ap (λ (x : Slices). x.mem.now) slices_are
+      memory_is = ap (λ (x : Parts). x.mem.now) slices_are
 
       maps_are : maps_of h'.marks.now ≡ mark (touched (via (changed s) A) h.mem.now) (maps_of h.marks.now)
-      maps_are = ap (λ (x : Slices). maps_of x.marks.now) slices_are
+      maps_are = ap (λ (x : Parts). maps_of x.marks.now) slices_are
 
       kept : Kept h.marks.now h'.marks.now
-      kept = kept_marked (touched (via (changed s) A) h.mem.now) h.marks.now h'.marks.now (ap (λ (x : Slices). x.marks.now) slices_are)
+      kept = kept_marked (touched (via (changed s) A) h.mem.now) h.marks.now h'.marks.now (ap (λ (x : Parts). x.marks.now) slices_are)
 
       lengths_on : Lengths h₀ h'
       lengths_on = record {
         names = record {
-          memory = ap (λ (x : Slices). x.mem.ghost_name) slices_are ∙ g.held.names.memory;
-          maps = ap (λ (x : Slices). x.marks.ghost_name) slices_are ∙ g.held.names.maps;
+          memory = ap (λ (x : Parts). x.mem.ghost_name) slices_are ∙ g.held.names.memory;
+          maps = ap (λ (x : Parts). x.marks.ghost_name) slices_are ∙ g.held.names.maps;
           first = kept.first ∙ g.held.names.first;
           written = kept.written ∙ g.held.names.written;
         };
@@ -130,17 +128,9 @@ module _ (S : Settings) (lines budget : ℕ) (h₀ : Slices) (s₀ : State) wher
       made x q =
           let o : perform A h.mem.now ≡ stepped x h'.mem.now = make_is (perform A h.mem.now) x h.mem.now h'.mem.now (sym (ap numbered q) ∙ turn_is) memory_is in
           record {
-            fits = fits_still;
             held = lengths_on;
             going = subst (λ (q : Maps). Going M budget (answer M budget s₀ h₀.mem.now (maps_of h₀.marks.now)) (i + 1) (changed s x) h'.mem.now q) (sym maps_are)
                 (going_turn M budget g.going b (changed s x) h'.mem.now (perform_via (changed s) h.mem.now A ∙ ap (via_outcome (changed s)) o));
-          }
-        where
-          fits_still : Fits h'
-          fits_still = record {
-            size = omega (arith, g.fits.size, g.held.memory, lengths_on.memory);
-            of_read = omega (arith, g.fits.of_read, g.held.memory, lengths_on.memory, g.held.first, lengths_on.first);
-            of_written = omega (arith, g.fits.of_written, g.held.memory, lengths_on.memory, g.held.written, lengths_on.written);
           }
 
       -- the state as it is stored back

@@ -11,7 +11,6 @@ use Rattle.rules.specs.Rules.{above}
 use Rattle.machine.specs.declared.Refusal.{Refusal}
 use Rattle.machine.specs.declared.Refusal.TheVariants.{BadMemory, BadMap, BadSettings, BadState, BadBudget, BadRange}
 use Rattle.machine.specs.declared.Ran.{Ran}
-use Rattle.machine.specs.declared.Slices.{Slices}
 use Rattle.machine.specs.Step.{machine}
 
 -- ---- what is not accepted
@@ -91,9 +90,6 @@ pub record Lent (m read written : List ℕ) : Type 0 where
   pub size : length m ≤ 2 ^ 20
   pub of_read : length m ≡ 8 * length read
   pub of_written : length m ≡ 8 * length written
-
-abbrev pub Fits : Slices → Type 0
-Fits h = Lent h.mem.now h.marks.now.first.now h.marks.now.written.now
 
 -- x where n is 0; with another number all is left unchanged, steps 0
 abbrev pub unless_refused : ℕ → State → List ℕ → Maps → Answer ℕ State → Answer ℕ State

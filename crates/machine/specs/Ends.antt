@@ -2,16 +2,14 @@
 -- Assumes nothing.
 use Rattle.std.specs.Prelude.{◌≡◌, cond, List, ℕ, ◌+◌, ◌%◌, eqb, leb, Result, Ok, Err}
 use Rattle.trace.specs.Access.{Access}
+use Rattle.std.specs.Borrow.{MutBor}
+use Rattle.maps.specs.declared.Marks.{Marks}
 use Rattle.maps.specs.Both.{marked}
 use Rattle.machine.specs.declared.Slices.{Slices}
 use Rattle.state.specs.declared.Change.{Change}
 use Rattle.state.specs.declared.Reason.{Reason}
 use Rattle.state.specs.State.{reason_number}
 use Rattle.trace.specs.Machine.{After, Attempt, Outcome, stopped, stepped, finish, perform, data_of, touched}
-
--- the n bytes at a: the first reason where a is no multiple of n, then the second where they pass the end
-abbrev pub within_of : ℕ → ℕ → ℕ → Reason → Reason → Result (Unit {0}) Reason
-within_of len a n crooked past = cond (eqb (a % n) 0) (cond (leb (a + n) len) (Ok tt) (Err past)) (Err crooked)
 
 -- a change, or the paper's number of a reason
 abbrev pub numbered : Result Change Reason → Result Change ℕ
@@ -26,22 +24,30 @@ abbrev pub memory_of : List ℕ → Outcome ℕ Change → List ℕ
 memory_of m (stopped n) = m
 memory_of m (stepped c n) = n
 
+-- the slices without what is known of them
+pub record Parts : Type 0 where
+  pub mem : MutBor (List ℕ)
+  pub marks : MutBor Marks
+
+abbrev pub parts : Slices → Parts
+parts h = record { mem = h.mem; marks = h.marks }
+
 -- the same slices, with the bytes m in memory and the accesses of a list marked in the maps
-abbrev pub left : Slices → List ℕ → List Access → Slices
+abbrev pub left : Parts → List ℕ → List Access → Parts
 left h m l = record { mem = record h.mem { now = m }; marks = record h.marks { now = marked l h.marks.now } }
 
 pub record End : Type 0 where
   pub turn : Result Change ℕ
-  pub slices : Slices
+  pub slices : Parts
 
-abbrev pub ended : Result Change Reason → Slices → End
+abbrev pub ended : Result Change Reason → Parts → End
 ended t h = record { turn = numbered t; slices = h }
 
 -- what follows the fetch, and a whole attempt
-unfoldable pub after_end : After ℕ Change → Slices → End
+unfoldable pub after_end : After ℕ Change → Parts → End
 after_end F h = record { turn = turn_of (finish F h.mem.now); slices = left h (memory_of h.mem.now (finish F h.mem.now)) (data_of F) }
 
-unfoldable pub attempt_end : Attempt ℕ Change → Slices → End
+unfoldable pub attempt_end : Attempt ℕ Change → Parts → End
 attempt_end A h = record { turn = turn_of (perform A h.mem.now); slices = left h (memory_of h.mem.now (perform A h.mem.now)) (touched A h.mem.now) }
 
 -- h is lent what h₀ was, with as many bytes in memory

@@ -7,10 +7,9 @@ ghost use Rattle.trace.specs.Machine.{answer};
 ghost use Rattle.maps.specs.Pair.{pair};
 ghost use Rattle.maps.specs.Both.{maps_of, HasRoom};
 ghost use Rattle.machine.specs.Step.{bytes, loaded as loaded_of};
-ghost use Rattle.machine.specs.Step.{loads, stores as stores_of, does, executes as executes_of, attempt, machine};
-ghost use Rattle.machine.specs.Ends.{Held, left, ended, after_end, attempt_end, within_of};
+ghost use Rattle.machine.specs.Step.{loads, stores as stores_of, does, executes as executes_of, attempt, machine, within_of};
 ghost use Rattle.machine.specs.Calls.{bad_memory, bad_map, bad_address, bad_settings, bad_state, bad_range, fresh_refusal, run_refusal, edit_refusal};
-ghost use Rattle.machine.specs.Calls.{refusal_number, refused, run_of, ran, numbers, answered, started, fresh_of, edit_of, told, bad_budget, Lent, Fits};
+ghost use Rattle.machine.specs.Calls.{refusal_number, refused, run_of, ran, numbers, answered, started, fresh_of, edit_of, told, bad_budget, Lent};
 
 use exec::{Effect, Width};
 use isa::Fields;
@@ -111,9 +110,12 @@ fn executes(regs: &Regs, s: Settings, c: Core, w: u32) -> Effect
 struct Slices<'m, 'b, 'a> {
     mem: &'m mut [u8],
     marks: &'b mut Marks<'a>,
+    ghost fits: { Lent mem.now marks.now.first.now marks.now.written.now },
 }
 
 impl Slices<'_, '_, '_> {
+    ghost use Rattle.machine.specs.Ends.{parts, Held, left, ended, after_end, attempt_end};
+
     // The number in the N bytes at a.
     fn number<const N: usize>(&self, a: usize) -> u32
         requires width { N ≤ 4 }
@@ -128,8 +130,7 @@ impl Slices<'_, '_, '_> {
     fn take_bytes<const N: usize>(&mut self, a: usize) -> u32
         requires width { N ≤ 4 }
         requires within { a + N ≤ length self.old.mem.now }
-        requires room { HasRoom self.old.marks.now (a + N) }
-        ensures { (result ≡ number self.old.mem.now a N) × (self.new ≡ left self.old self.old.mem.now (each reads a N)) }
+        ensures { (result ≡ number self.old.mem.now a N) × (parts self.new ≡ left (parts self.old) self.old.mem.now (each reads a N)) }
     {
         self.marks.read::<N>(a);
         self.number::<N>(a)
@@ -138,8 +139,8 @@ impl Slices<'_, '_, '_> {
     // The same by the width.
     #[inline(always)]
     fn take(&mut self, a: usize, w: Width) -> u32
-        requires { (a + bytes w ≤ length self.old.mem.now) × HasRoom self.old.marks.now (a + bytes w) }
-        ensures { (result ≡ number self.old.mem.now a (bytes w)) × (self.new ≡ left self.old self.old.mem.now (each reads a (bytes w))) }
+        requires { a + bytes w ≤ length self.old.mem.now }
+        ensures { (result ≡ number self.old.mem.now a (bytes w)) × (parts self.new ≡ left (parts self.old) self.old.mem.now (each reads a (bytes w))) }
     {
         match w {
             Width::Byte => self.take_bytes::<1>(a),
@@ -152,8 +153,7 @@ impl Slices<'_, '_, '_> {
     fn give_bytes<const N: usize>(&mut self, a: usize, v: u32)
         requires width { N ≤ 4 }
         requires within { a + N ≤ length self.old.mem.now }
-        requires room { HasRoom self.old.marks.now (a + N) }
-        ensures { self.new ≡ left self.old (put self.old.mem.now a N v) (each stores a N) }
+        ensures { parts self.new ≡ left (parts self.old) (put self.old.mem.now a N v) (each stores a N) }
     {
         self.marks.store::<N>(a);
         memory::store::<N>(self.mem, a, v);
@@ -161,8 +161,8 @@ impl Slices<'_, '_, '_> {
 
     // The same by the width.
     fn give(&mut self, a: usize, w: Width, v: u32)
-        requires { (a + bytes w ≤ length self.old.mem.now) × HasRoom self.old.marks.now (a + bytes w) }
-        ensures { self.new ≡ left self.old (put self.old.mem.now a (bytes w) v) (each stores a (bytes w)) }
+        requires { a + bytes w ≤ length self.old.mem.now }
+        ensures { parts self.new ≡ left (parts self.old) (put self.old.mem.now a (bytes w) v) (each stores a (bytes w)) }
     {
         match w {
             Width::Byte => self.give_bytes::<1>(a, v),
@@ -172,8 +172,7 @@ impl Slices<'_, '_, '_> {
     }
 
     fn load(&mut self, c: Core, dest: u32, at: u32, w: Width, sign: bool) -> Result<Change, Reason>
-        requires { Fits self.old }
-        ensures { ended result self.new ≡ after_end (loads (length self.old.mem.now) c dest at w sign) self.old }
+        ensures { ended result (parts self.new) ≡ after_end (loads (length self.old.mem.now) c dest at w sign) (parts self.old) }
     {
         let a = at as usize;
         within(
@@ -188,8 +187,7 @@ impl Slices<'_, '_, '_> {
     }
 
     fn store(&mut self, c: Core, at: u32, w: Width, v: u32) -> Result<Change, Reason>
-        requires { Fits self.old }
-        ensures { ended result self.new ≡ after_end (stores_of (length self.old.mem.now) c at w v) self.old }
+        ensures { ended result (parts self.new) ≡ after_end (stores_of (length self.old.mem.now) c at w v) (parts self.old) }
     {
         let a = at as usize;
         within(
@@ -212,8 +210,7 @@ impl Slices<'_, '_, '_> {
         c: Core,
         e: Effect,
     ) -> Result<Change, Reason>
-        requires { Fits self.old }
-        ensures { ended result self.new ≡ after_end (does s lines (length self.old.mem.now) regs.now.r c e) self.old }
+        ensures { ended result (parts self.new) ≡ after_end (does s lines (length self.old.mem.now) regs.now.r c e) (parts self.old) }
     {
         match e {
             Effect::Stop(reason) => Err(reason),
@@ -242,8 +239,7 @@ impl Slices<'_, '_, '_> {
 
     // One attempted step.
     fn step(&mut self, regs: &Regs, s: Settings, lines: u32, c: Core) -> Result<Change, Reason>
-        requires { Fits self.old }
-        ensures { ended result self.new ≡ attempt_end (attempt s lines (length self.old.mem.now) regs.now.r c) self.old }
+        ensures { ended result (parts self.new) ≡ attempt_end (attempt s lines (length self.old.mem.now) regs.now.r c) (parts self.old) }
     {
         if rules::above(c) {
             return Err(Reason::Unsound);
@@ -260,7 +256,6 @@ impl Slices<'_, '_, '_> {
 
     // At most `budget` steps, until one stops.
     fn turns(&mut self, state: &mut State, s: Settings, lines: u32, budget: u32) -> Ran
-        requires { Fits self.old }
         ensures ran { ran result state.new self.new.mem.now (maps_of self.new.marks.now) ≡ answer (machine s lines (length self.old.mem.now)) budget state.old self.old.mem.now (maps_of self.old.marks.now) }
         ensures held { Held self.old self.new }
     {
