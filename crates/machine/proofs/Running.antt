@@ -8,7 +8,7 @@ use Rattle.trace.specs.Via.{via, via_outcome}
 use Rattle.trace.proofs.Bytes.{put-length}
 use Rattle.trace.proofs.Via.{perform_via, touched_via}
 use Rattle.trace.proofs.Loop.{Going, going_start, going_turn, going_stop, going_end}
-use Rattle.maps.specs.Both.{maps_of, marked}
+use Rattle.maps.specs.Both.{maps_of}
 use Rattle.maps.proofs.Both.{Kept, kept_marked}
 use Rattle.state.specs.declared.State.{State}
 use Rattle.state.specs.declared.Settings.{Settings}

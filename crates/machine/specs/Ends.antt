@@ -1,6 +1,6 @@
 -- How a step in code tells its outcome: a change or a reason, and what it leaves in the lent slices.
 -- Assumes nothing.
-use Rattle.std.specs.Prelude.{◌≡◌, cond, List, ℕ, ◌+◌, ◌%◌, eqb, leb, Result, Ok, Err}
+use Rattle.std.specs.Prelude.{◌≡◌, List, ℕ, Result, Ok, Err}
 use Rattle.trace.specs.Access.{Access}
 use Rattle.std.specs.Borrow.{MutBor}
 use Rattle.maps.specs.declared.Marks.{Marks}
@@ -50,7 +50,7 @@ after_end F h = record { turn = turn_of (finish F h.mem.now); slices = left h (m
 unfoldable pub attempt_end : Attempt ℕ Change → Parts → End
 attempt_end A h = record { turn = turn_of (perform A h.mem.now); slices = left h (memory_of h.mem.now (perform A h.mem.now)) (touched A h.mem.now) }
 
--- h is lent what h₀ was, with as many bytes in memory
+-- h holds the slices that h₀ holds
 pub record Held (h₀ h : Slices) : Type 0 where
   pub memory : h.mem.ghost_name ≡ h₀.mem.ghost_name
   pub maps : h.marks.ghost_name ≡ h₀.marks.ghost_name

@@ -105,7 +105,7 @@ fn executes(regs: &Regs, s: Settings, c: Core, w: u32) -> Effect
     )
 }
 
-// The lent slices: memory and its two maps.
+// The lent slices of a run: memory, and the two maps as one value.
 #[derive(Drop)]
 struct Slices<'m, 'b, 'a> {
     mem: &'m mut [u8],
@@ -125,7 +125,7 @@ impl Slices<'_, '_, '_> {
         memory::load::<N>(self.mem, a)
     }
 
-    // The same, and their marks.
+    // The same, and their marks. Were this no inlined function, or the next, the slices' addresses would be loaded at each use.
     #[inline(always)]
     fn take_bytes<const N: usize>(&mut self, a: usize) -> u32
         requires width { N ≤ 4 }
@@ -254,7 +254,7 @@ impl Slices<'_, '_, '_> {
         self.finish(regs, s, lines, c, e)
     }
 
-    // At most `budget` steps, until one stops.
+    // At most `budget` steps, until one stops. The slices stay those that were lent.
     fn turns(&mut self, state: &mut State, s: Settings, lines: u32, budget: u32) -> Ran
         ensures ran { ran result state.new self.new.mem.now (maps_of self.new.marks.now) ≡ answer (machine s lines (length self.old.mem.now)) budget state.old self.old.mem.now (maps_of self.old.marks.now) }
         ensures held { Held self.old self.new }

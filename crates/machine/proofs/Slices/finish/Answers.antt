@@ -1,6 +1,6 @@
 -- `machine::Slices::finish` meets its contract: each effect by the functions that carry it out.
 -- Assumes nothing.
-use Rattle.machine.specs.Ends.{parts, after_end}
+use Rattle.machine.specs.Ends.{after_end}
 use Rattle.machine.proofs.Slices.finish.Goals as goal
 
 pub returns-in-Stop : goal.returns-in-Stop

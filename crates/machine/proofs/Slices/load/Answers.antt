@@ -1,8 +1,7 @@
 -- `machine::Slices::load` meets its contract: by the laws of a load that stops and of one that is made.
 -- Assumes nothing.
-use Rattle.std.proofs.Common.{◌+◌, sym, ◌∙◌, arith}
+use Rattle.std.proofs.Common.{sym, ◌∙◌, arith}
 use Rattle.std.proofs.lemmas.Result.{err_from_is_err_and}
-use Rattle.machine.specs.Step.{bytes}
 use Rattle.machine.specs.Ends.{parts}
 use Rattle.machine.proofs.Rules.{bytes_range, inside, load_stops, load_makes}
 use Rattle.machine.proofs.Slices.load.Goals as goal

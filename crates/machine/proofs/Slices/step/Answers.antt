@@ -1,9 +1,8 @@
 -- `machine::Slices::step` meets its contract: by the first rule that holds.
 -- Assumes nothing.
-use Rattle.std.proofs.Common.{ℕ, ◌+◌, sym, ap, ◌∙◌, length}
+use Rattle.std.proofs.Common.{ℕ, sym, ap, ◌∙◌, length}
 use Rattle.std.proofs.lemmas.Result.{err_from_is_err_and}
 use Rattle.state.specs.declared.Reason.TheVariants.{Misaligned, Past}
-use Rattle.trace.specs.Access.{reads, each}
 use Rattle.machine.specs.Step.{does}
 use Rattle.machine.specs.Ends.{parts, after_end}
 use Rattle.machine.specs.Ends.{Parts}

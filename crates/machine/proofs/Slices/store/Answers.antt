@@ -1,8 +1,7 @@
 -- `machine::Slices::store` meets its contract: by the laws of a store that stops and of one that is made.
 -- Assumes nothing.
-use Rattle.std.proofs.Common.{◌+◌, sym, ◌∙◌, arith}
+use Rattle.std.proofs.Common.{sym, ◌∙◌, arith}
 use Rattle.std.proofs.lemmas.Result.{err_from_is_err_and}
-use Rattle.machine.specs.Step.{bytes}
 use Rattle.machine.specs.Ends.{parts}
 use Rattle.machine.proofs.Rules.{bytes_range, inside, store_stops, store_makes}
 use Rattle.machine.proofs.Slices.store.Goals as goal
