@@ -8,6 +8,7 @@ use Rattle.trace.specs.Machine.{After, stop, Attempt, halt, fetch}
 use Rattle.maps.specs.declared.Marks.{Marks}
 use Rattle.maps.specs.Both.{HasRoom, marked}
 use Rattle.maps.proofs.Both.{kept_marked}
+use Rattle.machine.specs.Calls.{Lent}
 use Rattle.exec.specs.declared.Width.{Width}
 use Rattle.exec.specs.declared.Width.TheVariants.{Byte, Half, Word}
 use Rattle.exec.specs.declared.Effect.{Effect}
@@ -19,9 +20,9 @@ use Rattle.state.specs.declared.Reason.TheVariants.{Misaligned, Past, DataMisali
 use Rattle.state.specs.State.{reason_number}
 use Rattle.rules.specs.Rules.{above, interrupted, exception, next, only, writes}
 use Rattle.machine.specs.Step as step
-use Rattle.machine.specs.Step.{bytes, loaded, within}
-use Rattle.machine.specs.Ends.{End, ended, after_end, attempt_end, within_of}
-use Rattle.machine.specs.Calls.{Lent}
+use Rattle.machine.specs.Step.{bytes, loaded, within, within_of}
+use Rattle.machine.specs.declared.Slices.{Slices}
+use Rattle.machine.specs.Ends.{Parts, left, End, ended, after_end, attempt_end}
 
 -- ---- the two tests in order, by what the code's test hands back
 
@@ -64,102 +65,102 @@ bytes_range Byte = (omega arith, omega arith)
 bytes_range Half = (omega arith, omega arith)
 bytes_range Word = (omega arith, omega arith)
 
-pub room : (m : List ℕ) (p : Marks) (n : ℕ) → Lent m p.first.now p.written.now → n ≤ length m → HasRoom p n
-room m p n l h = record { of_first = omega (arith, l.of_read); of_written = omega (arith, l.of_written); small = omega (arith, l.size) }
+pub room : (h : Slices) (n : ℕ) → n ≤ length h.mem.now → HasRoom h.marks.now n
+room h n g = record { of_first = omega (arith, h.fits.of_read, g); of_written = omega (arith, h.fits.of_written, g); small = omega (arith, h.fits.size, g) }
 
 -- and after marks
-pub lent_on : (m : List ℕ) (p p' : Marks) (l : List Access) → p' ≡ marked l p → Lent m p.first.now p.written.now → Lent m p'.first.now p'.written.now
-lent_on m p p' l e h =
+pub still_lent : (m : List ℕ) (p p' : Marks) (l : List Access) → p' ≡ marked l p → Lent m p.first.now p.written.now → Lent m p'.first.now p'.written.now
+still_lent m p p' l e h =
     let k = kept_marked l p p' e in
     record { size = h.size; of_read = omega (arith, h.of_read, k.first_length); of_written = omega (arith, h.of_written, k.written_length) }
 
 -- ---- loads and stores
 
-module _ (m : List ℕ) (p : Marks) (c : Core) (a : ℕ) (w : Width) (n : ℕ) (size : n ≡ bytes w) where
+module _ (u : Parts) (c : Core) (a : ℕ) (w : Width) (n : ℕ) (size : n ≡ bytes w) where
   abbrev Tested : Result (Unit {0}) Reason → Type 0
-  Tested t = t ≡ within_of (length m) a n DataMisaligned DataPast
+  Tested t = t ≡ within_of (length u.mem.now) a n DataMisaligned DataPast
 
-  of_width : (t : Result (Unit {0}) Reason) → Tested t → t ≡ within_of (length m) a (bytes w) DataMisaligned DataPast
-  of_width t e = e ∙ ap (λ (k : ℕ). within_of (length m) a k DataMisaligned DataPast) size
+  of_width : (t : Result (Unit {0}) Reason) → Tested t → t ≡ within_of (length u.mem.now) a (bytes w) DataMisaligned DataPast
+  of_width t e = e ∙ ap (λ (k : ℕ). within_of (length u.mem.now) a k DataMisaligned DataPast) size
 
-  pub inside : (y : Unit {0}) → Tested (Ok y) → a + bytes w ≤ length m
-  inside y e = not_past (length m) a (bytes w) DataMisaligned DataPast y (of_width (Ok y) e)
+  pub inside : (y : Unit {0}) → Tested (Ok y) → a + bytes w ≤ length u.mem.now
+  inside y e = not_past (length u.mem.now) a (bytes w) DataMisaligned DataPast y (of_width (Ok y) e)
 
-  within_stops : (r : Reason) → Tested (Err r) → (x : After ℕ Change) → within (length m) a w x ≡ stop (reason_number r)
-  within_stops r e x = barred (length m) a (bytes w) DataMisaligned DataPast x stop r (of_width (Err r) e)
+  within_stops : (r : Reason) → Tested (Err r) → (x : After ℕ Change) → within (length u.mem.now) a w x ≡ stop (reason_number r)
+  within_stops r e x = barred (length u.mem.now) a (bytes w) DataMisaligned DataPast x stop r (of_width (Err r) e)
 
-  within_goes : (y : Unit {0}) → Tested (Ok y) → (x : After ℕ Change) → within (length m) a w x ≡ x
-  within_goes y e x = open_to (length m) a (bytes w) DataMisaligned DataPast x stop y (of_width (Ok y) e)
+  within_goes : (y : Unit {0}) → Tested (Ok y) → (x : After ℕ Change) → within (length u.mem.now) a w x ≡ x
+  within_goes y e x = open_to (length u.mem.now) a (bytes w) DataMisaligned DataPast x stop y (of_width (Ok y) e)
 
   pub load_stops : (r : Reason) → Tested (Err r) → (d : ℕ) (s : Bool)
-      → ended (Err r) m p ≡ after_end (step.loads (length m) c d a w s) m p
+      → ended (Err r) u ≡ after_end (step.loads (length u.mem.now) c d a w s) u
   unfolding after_end
   load_stops r e d s = rw (within_stops r e _)
 
   pub store_stops : (r : Reason) → Tested (Err r) → (v : ℕ)
-      → ended (Err r) m p ≡ after_end (step.stores (length m) c a w v) m p
+      → ended (Err r) u ≡ after_end (step.stores (length u.mem.now) c a w v) u
   unfolding after_end
   store_stops r e v = rw (within_stops r e _)
 
-  pub load_makes : (y : Unit {0}) → Tested (Ok y) → (d : ℕ) (s : Bool) (v x : ℕ) (core : Core) (h : Change) (p' : Marks)
-      → v ≡ number m a (bytes w) → p' ≡ marked (each reads a (bytes w)) p
+  pub load_makes : (y : Unit {0}) → Tested (Ok y) → (d : ℕ) (s : Bool) (v x : ℕ) (core : Core) (h : Change) (u' : Parts)
+      → v ≡ number u.mem.now a (bytes w) → u' ≡ left u u.mem.now (each reads a (bytes w))
       → x ≡ loaded w s v → core ≡ next c → h ≡ writes d x core
-      → ended (Ok h) m p' ≡ after_end (step.loads (length m) c d a w s) m p
+      → ended (Ok h) u' ≡ after_end (step.loads (length u.mem.now) c d a w s) u
   unfolding after_end
-  load_makes y e d s v x core h p' ev em ex ec eh =
-      rw (within_goes y e _, eh, ec, ex, ev) (ap (λ q. record { turn = Ok (writes d (loaded w s (number m a (bytes w))) (next c)); memory = m; marks = q }) em)
+  load_makes y e d s v x core h u' ev em ex ec eh =
+      rw (within_goes y e _, eh, ec, ex, ev) (ap (λ q. record { turn = Ok (writes d (loaded w s (number u.mem.now a (bytes w))) (next c)); slices = q }) em)
 
-  pub store_makes : (y : Unit {0}) → Tested (Ok y) → (v : ℕ) (core : Core) (h : Change) (m' : List ℕ) (p' : Marks)
-      → m' ≡ put m a (bytes w) v → p' ≡ marked (each stores a (bytes w)) p
+  pub store_makes : (y : Unit {0}) → Tested (Ok y) → (v : ℕ) (core : Core) (h : Change) (u' : Parts)
+      → u' ≡ left u (put u.mem.now a (bytes w) v) (each stores a (bytes w))
       → core ≡ next c → h ≡ only core
-      → ended (Ok h) m' p' ≡ after_end (step.stores (length m) c a w v) m p
+      → ended (Ok h) u' ≡ after_end (step.stores (length u.mem.now) c a w v) u
   unfolding after_end
-  store_makes y e v core h m' p' ev em ec eh =
-      rw (within_goes y e _, eh, ec, ev) (ap (λ q. record { turn = Ok (only (next c)); memory = put m a (bytes w) v; marks = q }) em)
+  store_makes y e v core h u' em ec eh =
+      rw (within_goes y e _, eh, ec) (ap (λ q. record { turn = Ok (only (next c)); slices = q }) em)
 
 -- what a load and a store are proved by
-pub ruleset loading = (bytes_range, inside, room, load_stops, load_makes)
+pub ruleset loading = (bytes_range, inside, load_stops, load_makes)
 
-pub ruleset storing = (bytes_range, inside, room, store_stops, store_makes)
+pub ruleset storing = (bytes_range, inside, store_stops, store_makes)
 
 -- ---- a whole attempt, by the first rule that holds
 
-module _ (S : Settings) (lines : ℕ) (r : List ℕ) (c : Core) (m : List ℕ) (p : Marks) where
+module _ (S : Settings) (lines : ℕ) (r : List ℕ) (c : Core) (u : Parts) where
   abbrev Goal : End → Type 0
-  Goal x = x ≡ attempt_end (step.attempt S lines (length m) r c) m p
+  Goal x = x ≡ attempt_end (step.attempt S lines (length u.mem.now) r c) u
 
-  pub ends_above : above c ≡ true → Goal (ended (Err Unsound) m p)
+  pub ends_above : above c ≡ true → Goal (ended (Err Unsound) u)
   unfolding attempt_end step.attempt
   ends_above t = rw (t)
 
   module _ (f : above c ≡ false) where
-    pub ends_interrupted : interrupted lines c ≡ true → (h : Change) → h ≡ exception S c → Goal (ended (Ok h) m p)
+    pub ends_interrupted : interrupted lines c ≡ true → (h : Change) → h ≡ exception S c → Goal (ended (Ok h) u)
     unfolding attempt_end step.attempt
     ends_interrupted t h e = rw (f, t, e)
 
     module _ (g : interrupted lines c ≡ false) where
       fetches : Attempt ℕ Change
-      fetches = fetch c.pc (λ w. step.does S lines (length m) r c (step.executes S r c w))
+      fetches = fetch c.pc (λ w. step.does S lines (length u.mem.now) r c (step.executes S r c w))
 
       -- the attempt, once the test of the address is known
-      by_address : (A : Attempt ℕ Change) → cond (eqb (c.pc % 4) 0) (cond (leb (c.pc + 4) (length m)) fetches (halt 11)) (halt 10) ≡ A
-          → step.attempt S lines (length m) r c ≡ A
+      by_address : (A : Attempt ℕ Change) → cond (eqb (c.pc % 4) 0) (cond (leb (c.pc + 4) (length u.mem.now)) fetches (halt 11)) (halt 10) ≡ A
+          → step.attempt S lines (length u.mem.now) r c ≡ A
       unfolding step.attempt fetches
       by_address A e = rw (f, g) e
 
-      known : (A : Attempt ℕ Change) → step.attempt S lines (length m) r c ≡ A → attempt_end (step.attempt S lines (length m) r c) m p ≡ attempt_end A m p
-      known A q = ap (λ (B : Attempt ℕ Change). attempt_end B m p) q
+      known : (A : Attempt ℕ Change) → step.attempt S lines (length u.mem.now) r c ≡ A → attempt_end (step.attempt S lines (length u.mem.now) r c) u ≡ attempt_end A u
+      known A q = ap (λ (B : Attempt ℕ Change). attempt_end B u) q
 
-      pub ends_barred : (k : Reason) → Err k ≡ within_of (length m) c.pc 4 Misaligned Past → Goal (ended (Err k) m p)
+      pub ends_barred : (k : Reason) → Err k ≡ within_of (length u.mem.now) c.pc 4 Misaligned Past → Goal (ended (Err k) u)
       unfolding attempt_end
-      ends_barred k e = sym (known (halt (reason_number k)) (by_address _ (barred (length m) c.pc 4 Misaligned Past fetches halt k e)))
+      ends_barred k e = sym (known (halt (reason_number k)) (by_address _ (barred (length u.mem.now) c.pc 4 Misaligned Past fetches halt k e)))
 
-      pub ends_fetched : (y : Unit {0}) → Ok y ≡ within_of (length m) c.pc 4 Misaligned Past → (w : ℕ) (x : Effect) (p' : Marks) (z : End)
-          → p' ≡ marked (each reads c.pc 4) p → w ≡ number m c.pc 4 → x ≡ step.executes S r c w
-          → z ≡ after_end (step.does S lines (length m) r c x) m p' → Goal z
+      pub ends_fetched : (y : Unit {0}) → Ok y ≡ within_of (length u.mem.now) c.pc 4 Misaligned Past → (w : ℕ) (x : Effect) (u' : Parts) (z : End)
+          → u' ≡ left u u.mem.now (each reads c.pc 4) → w ≡ number u.mem.now c.pc 4 → x ≡ step.executes S r c w
+          → z ≡ after_end (step.does S lines (length u.mem.now) r c x) u' → Goal z
       unfolding attempt_end after_end fetches
-      ends_fetched y e w x p' z em ew ex ez =
+      ends_fetched y e w x u' z em ew ex ez =
           ez
-          ∙ ap (λ (y : Effect). after_end (step.does S lines (length m) r c y) m p') ex
-          ∙ ap₂ (λ (y : ℕ) (q : Marks). after_end (step.does S lines (length m) r c (step.executes S r c y)) m q) ew em
-          ∙ sym (known fetches (by_address _ (open_to (length m) c.pc 4 Misaligned Past fetches halt y e)))
+          ∙ ap (λ (y : Effect). after_end (step.does S lines (length u.mem.now) r c y) u') ex
+          ∙ ap₂ (λ (y : ℕ) (q : Parts). after_end (step.does S lines (length u.mem.now) r c (step.executes S r c y)) q) ew em
+          ∙ sym (known fetches (by_address _ (open_to (length u.mem.now) c.pc 4 Misaligned Past fetches halt y e)))

@@ -1,14 +1,15 @@
 -- The invariant of the run's loop, over the theory's own, with a lemma for its start, its turn, its stop and its end.
 -- Assumes nothing.
 use Rattle.std.proofs.Common.{◌≡◌, refl, sym, ap, ◌∙◌, subst, List, ℕ, ◌+◌, ◌≤◌, ◌<◌, length, arith, Result, Ok, Err}
+use Rattle.trace.specs.Access.{number}
 use Rattle.trace.specs.Maps.{Maps, mark}
-use Rattle.trace.specs.Machine.{Attempt, Outcome, stopped, stepped, perform, touched, Answer, answer}
+use Rattle.trace.specs.Machine.{Machine, After, stop, go, load, store, Attempt, halt, quiet, fetch, Outcome, stopped, stepped, finish, perform, touched, Answer, answer}
 use Rattle.trace.specs.Via.{via, via_outcome}
+use Rattle.trace.proofs.Bytes.{put-length}
 use Rattle.trace.proofs.Via.{perform_via, touched_via}
 use Rattle.trace.proofs.Loop.{Going, going_start, going_turn, going_stop, going_end}
-use Rattle.maps.specs.declared.Marks.{Marks}
-use Rattle.maps.specs.Both.{maps_of, marked}
-use Rattle.maps.proofs.Both.{Kept, kept_marked, kept_on}
+use Rattle.maps.specs.Both.{maps_of}
+use Rattle.maps.proofs.Both.{Kept, kept_marked}
 use Rattle.state.specs.declared.State.{State}
 use Rattle.state.specs.declared.Settings.{Settings}
 use Rattle.state.specs.declared.Change.{Change}
@@ -16,15 +17,21 @@ use Rattle.state.specs.declared.Reason.{Reason}
 use Rattle.state.specs.declared.Reason.TheVariants.{Spent}
 use Rattle.state.specs.State.{reason_number, changed}
 use Rattle.machine.specs.Step.{attempt, machine}
-use Rattle.machine.specs.Ends.{numbered, turn_of, memory_of, End, ended, attempt_end}
-use Rattle.machine.specs.Calls.{Lent, ran}
+use Rattle.machine.specs.declared.Slices.{Slices}
+use Rattle.machine.specs.Ends.{Parts, parts, Held, left, numbered, turn_of, memory_of, End, ended, attempt_end}
+use Rattle.machine.specs.Calls.{ran}
 
--- from m₀, p₀ and s₀, i steps of the budget are made
-pub record Running (S : Settings) (lines budget : ℕ) (m₀ : List ℕ) (p₀ : Marks) (s₀ : State) (m : List ℕ) (p : Marks) (s : State) (i : ℕ) : Type 0 where
-  pub lent : Lent m p.first.now p.written.now
-  pub of_memory : length m ≡ length m₀
-  pub kept : Kept p₀ p
-  pub going : Going (machine S lines (length m₀)) budget (answer (machine S lines (length m₀)) budget s₀ m₀ (maps_of p₀)) i s m (maps_of p)
+-- and the slices' lengths stay
+pub record Lengths (h₀ h : Slices) : Type 0 where
+  pub names : Held h₀ h
+  pub memory : length h.mem.now ≡ length h₀.mem.now
+  pub first : length h.marks.now.first.now ≡ length h₀.marks.now.first.now
+  pub written : length h.marks.now.written.now ≡ length h₀.marks.now.written.now
+
+-- from h₀ and s₀, i steps of the budget are made
+pub record Running (S : Settings) (lines budget : ℕ) (h₀ : Slices) (s₀ : State) (h : Slices) (s : State) (i : ℕ) : Type 0 where
+  pub held : Lengths h₀ h
+  pub going : Going (machine S lines (length h₀.mem.now)) budget (answer (machine S lines (length h₀.mem.now)) budget s₀ h₀.mem.now (maps_of h₀.marks.now)) i s h.mem.now (maps_of h.marks.now)
 
 -- what an end says of its attempt's outcome
 stop_is : (o : Outcome ℕ Change) (n : ℕ) → Err n ≡ turn_of o → o ≡ stopped n
@@ -35,79 +42,97 @@ make_is : (o : Outcome ℕ Change) (h : Change) (m n : List ℕ) → Ok h ≡ tu
 make_is (stopped k) h m n e f = cc
 make_is (stepped c k) h m n e f = cc
 
-module _ (S : Settings) (lines budget : ℕ) (m₀ : List ℕ) (p₀ : Marks) (s₀ : State) where
-  pub start : Lent m₀ p₀.first.now p₀.written.now → Running S lines budget m₀ p₀ s₀ m₀ p₀ s₀ 0
-  start l = record {
-    lent = l;
-    of_memory = refl;
-    kept = record { first = refl; written = refl; first_length = refl; written_length = refl };
-    going = going_start (machine S lines (length m₀)) budget s₀ m₀ (maps_of p₀);
-  }
+after_length : (F : After ℕ Change) (m : List ℕ) → length (memory_of m (finish F m)) ≡ length m
+after_length (stop r) m = refl
+after_length (go c) m = refl
+after_length (load a w k) m = refl
+after_length (store a w v c) m = put-length m a w v
+
+attempt_length : (A : Attempt ℕ Change) (m : List ℕ) → length (memory_of m (perform A m)) ≡ length m
+attempt_length (halt r) m = refl
+attempt_length (quiet c) m = refl
+attempt_length (fetch a f) m = after_length (f (number m a 4)) m
+
+module _ (S : Settings) (lines budget : ℕ) (h₀ : Slices) (s₀ : State) where
+  abbrev M : Machine ℕ State
+  M = machine S lines (length h₀.mem.now)
 
   abbrev Whole : Answer ℕ State → Type 0
-  Whole x = x ≡ answer (machine S lines (length m₀)) budget s₀ m₀ (maps_of p₀)
+  Whole x = x ≡ answer M budget s₀ h₀.mem.now (maps_of h₀.marks.now)
 
-  module _ {m : List ℕ} {p : Marks} {s : State} {i : ℕ} (g : Running S lines budget m₀ p₀ s₀ m p s i) where
-    pub spent : budget ≤ i → Whole (ran (record { reason = Spent; steps = budget }) s m (maps_of p))
-    spent h =
+  pub start : Running S lines budget h₀ s₀ h₀ s₀ 0
+  start = record {
+    held = record { names = record { memory = refl; maps = refl; first = refl; written = refl }; memory = refl; first = refl; written = refl };
+    going = going_start M budget s₀ h₀.mem.now (maps_of h₀.marks.now);
+  }
+
+  module _ {h : Slices} {s : State} {i : ℕ} (g : Running S lines budget h₀ s₀ h s i) where
+    pub spent : budget ≤ i → Whole (ran (record { reason = Spent; steps = budget }) s h.mem.now (maps_of h.marks.now))
+    spent b =
         let e : budget ≡ i = omega (arith, g.going.within) in
-        (λ j. record { reason = 0; steps = e j; config = s; memory = m; maps = maps_of p }) ∙ sym (going_end (machine S lines (length m₀)) budget g.going h)
+        (λ j. record { reason = 0; steps = e j; config = s; memory = h.mem.now; maps = maps_of h.marks.now }) ∙ sym (going_end M budget g.going b)
 
-    module _ (t : Result Change Reason) (m' : List ℕ) (p' : Marks) (h : i < budget)
-        (e : ended t m' p' ≡ attempt_end (attempt S lines (length m) s.regs.r s.core) m p) where
+    module _ (t : Result Change Reason) (h' : Slices) (b : i < budget)
+        (e : ended t (parts h') ≡ attempt_end (attempt S lines (length h.mem.now) s.regs.r s.core) (parts h)) where
       -- the attempt, by the length that the run began with
       A : Attempt ℕ Change
-      A = attempt S lines (length m₀) s.regs.r s.core
+      A = attempt S lines (length h₀.mem.now) s.regs.r s.core
 
-      end : ended t m' p' ≡ attempt_end A m p
+      end : ended t (parts h') ≡ attempt_end A (parts h)
       unfolding A
-      end = e ∙ ap (λ (n : ℕ). attempt_end (attempt S lines n s.regs.r s.core) m p) g.of_memory
+      end = e ∙ ap (λ (n : ℕ). attempt_end (attempt S lines n s.regs.r s.core) (parts h)) g.held.memory
 
-      turn_is : numbered t ≡ turn_of (perform A m)
+      turn_is : numbered t ≡ turn_of (perform A h.mem.now)
       unfolding attempt_end
       turn_is = ap (λ (x : End). x.turn) end
 
-      memory_is : m' ≡ memory_of m (perform A m)
+      slices_are : parts h' ≡ left (parts h) (memory_of h.mem.now (perform A h.mem.now)) (touched (via (changed s) A) h.mem.now)
       unfolding attempt_end
-      memory_is = ap (λ (x : End). x.memory) end
+      slices_are = ap (λ (x : End). x.slices) end ∙ ap (left (parts h) (memory_of h.mem.now (perform A h.mem.now))) (sym (touched_via (changed s) h.mem.now A))
 
-      marks_is : p' ≡ marked (touched (via (changed s) A) m) p
-      unfolding attempt_end
-      marks_is = ap (λ (x : End). x.marks) end ∙ ap (λ l. marked l p) (sym (touched_via (changed s) m A))
+      memory_is : h'.mem.now ≡ memory_of h.mem.now (perform A h.mem.now)
+      memory_is = ap (λ (x : Parts). x.mem.now) slices_are
 
-      maps_is : maps_of p' ≡ mark (touched (via (changed s) A) m) (maps_of p)
-      maps_is = ap maps_of marks_is
+      maps_are : maps_of h'.marks.now ≡ mark (touched (via (changed s) A) h.mem.now) (maps_of h.marks.now)
+      maps_are = ap (λ (x : Parts). maps_of x.marks.now) slices_are
 
-      kept_is : Kept p p'
-      kept_is = kept_marked (touched (via (changed s) A) m) p p' marks_is
+      kept : Kept h.marks.now h'.marks.now
+      kept = kept_marked (touched (via (changed s) A) h.mem.now) h.marks.now h'.marks.now (ap (λ (x : Parts). x.marks.now) slices_are)
 
-      pub stops_kept : Kept p₀ p'
-      stops_kept = kept_on p₀ p p' g.kept kept_is
+      lengths_on : Lengths h₀ h'
+      lengths_on = record {
+        names = record {
+          memory = ap (λ (x : Parts). x.mem.ghost_name) slices_are ∙ g.held.names.memory;
+          maps = ap (λ (x : Parts). x.marks.ghost_name) slices_are ∙ g.held.names.maps;
+          first = kept.first ∙ g.held.names.first;
+          written = kept.written ∙ g.held.names.written;
+        };
+        memory = ap length memory_is ∙ attempt_length A h.mem.now ∙ g.held.memory;
+        first = kept.first_length ∙ g.held.first;
+        written = kept.written_length ∙ g.held.written;
+      }
 
-      pub stops : (r : Reason) → t ≡ Err r → Whole (ran (record { reason = r; steps = i }) s m' (maps_of p'))
+      pub held_on : Held h₀ h'
+      held_on = lengths_on.names
+
+      pub stops : (r : Reason) → t ≡ Err r → Whole (ran (record { reason = r; steps = i }) s h'.mem.now (maps_of h'.marks.now))
       unfolding A
       stops r q =
-          let o : perform A m ≡ stopped (reason_number r) = stop_is (perform A m) (reason_number r) (sym (ap numbered q) ∙ turn_is) in
-          let k : m' ≡ m = memory_is ∙ ap (memory_of m) o in
-          (λ j. record { reason = reason_number r; steps = i; config = s; memory = k j; maps = maps_is j })
-          ∙ sym (going_stop (machine S lines (length m₀)) budget g.going h (reason_number r) (perform_via (changed s) m A ∙ ap (via_outcome (changed s)) o))
+          let o : perform A h.mem.now ≡ stopped (reason_number r) = stop_is (perform A h.mem.now) (reason_number r) (sym (ap numbered q) ∙ turn_is) in
+          let k : h'.mem.now ≡ h.mem.now = memory_is ∙ ap (memory_of h.mem.now) o in
+          (λ j. record { reason = reason_number r; steps = i; config = s; memory = k j; maps = maps_are j })
+          ∙ sym (going_stop M budget g.going b (reason_number r) (perform_via (changed s) h.mem.now A ∙ ap (via_outcome (changed s)) o))
 
-      made : (x : Change) → t ≡ Ok x → length m' ≡ length m → Running S lines budget m₀ p₀ s₀ m' p' (changed s x) (i + 1)
+      made : (x : Change) → t ≡ Ok x → Running S lines budget h₀ s₀ h' (changed s x) (i + 1)
       unfolding A
-      made x q a =
-          let o : perform A m ≡ stepped x m' = make_is (perform A m) x m m' (sym (ap numbered q) ∙ turn_is) memory_is in
+      made x q =
+          let o : perform A h.mem.now ≡ stepped x h'.mem.now = make_is (perform A h.mem.now) x h.mem.now h'.mem.now (sym (ap numbered q) ∙ turn_is) memory_is in
           record {
-            lent = record {
-              size = omega (arith, g.lent.size);
-              of_read = omega (arith, g.lent.of_read, kept_is.first_length);
-              of_written = omega (arith, g.lent.of_written, kept_is.written_length);
-            };
-            of_memory = a ∙ g.of_memory;
-            kept = stops_kept;
-            going = subst (λ (q : Maps). Going (machine S lines (length m₀)) budget (answer (machine S lines (length m₀)) budget s₀ m₀ (maps_of p₀)) (i + 1) (changed s x) m' q) (sym maps_is)
-                (going_turn (machine S lines (length m₀)) budget g.going h (changed s x) m' (perform_via (changed s) m A ∙ ap (via_outcome (changed s)) o));
+            held = lengths_on;
+            going = subst (λ (q : Maps). Going M budget (answer M budget s₀ h₀.mem.now (maps_of h₀.marks.now)) (i + 1) (changed s x) h'.mem.now q) (sym maps_are)
+                (going_turn M budget g.going b (changed s x) h'.mem.now (perform_via (changed s) h.mem.now A ∙ ap (via_outcome (changed s)) o));
           }
 
       -- the state as it is stored back
-      pub turns : (x : Change) (s' : State) → t ≡ Ok x → s' ≡ changed s x → length m' ≡ length m → Running S lines budget m₀ p₀ s₀ m' p' s' (i + 1)
-      turns x s' q f a = rw (f) (made x q a)
+      pub turns : (x : Change) (s' : State) → t ≡ Ok x → s' ≡ changed s x → Running S lines budget h₀ s₀ h' s' (i + 1)
+      turns x s' q f = rw (f) (made x q)

@@ -1,7 +1,6 @@
 -- The three calls: what is not accepted, in order, and what an accepted call gives.
 -- Assumes nothing.
 use Rattle.std.specs.Prelude.{◌≡◌, Bool, true, false, not, ◌||◌, cond, List, [], ◌∷◌, ℕ, zero, suc, ◌+◌, ◌-◌, ◌*◌, ◌/◌, ◌%◌, ◌^◌, ◌≤◌, eqb, ltb, length, get_or, replicate, Result, Ok, Err}
-use Rattle.maps.specs.declared.Marks.{Marks}
 use Rattle.maps.specs.Pair.{pair, none_set}
 use Rattle.state.specs.declared.State.{State}
 use Rattle.state.specs.declared.Settings.{Settings}
@@ -91,9 +90,6 @@ pub record Lent (m read written : List ℕ) : Type 0 where
   pub size : length m ≤ 2 ^ 20
   pub of_read : length m ≡ 8 * length read
   pub of_written : length m ≡ 8 * length written
-
-abbrev pub LentWith : List ℕ → Marks → Type 0
-LentWith m p = Lent m p.first.now p.written.now
 
 -- x where n is 0; with another number all is left unchanged, steps 0
 abbrev pub unless_refused : ℕ → State → List ℕ → Maps → Answer ℕ State → Answer ℕ State

@@ -1,16 +1,15 @@
 -- How a step in code tells its outcome: a change or a reason, and what it leaves in the lent slices.
 -- Assumes nothing.
-use Rattle.std.specs.Prelude.{cond, List, ℕ, ◌+◌, ◌%◌, eqb, leb, Result, Ok, Err}
+use Rattle.std.specs.Prelude.{◌≡◌, List, ℕ, Result, Ok, Err}
+use Rattle.trace.specs.Access.{Access}
+use Rattle.std.specs.Borrow.{MutBor}
 use Rattle.maps.specs.declared.Marks.{Marks}
 use Rattle.maps.specs.Both.{marked}
+use Rattle.machine.specs.declared.Slices.{Slices}
 use Rattle.state.specs.declared.Change.{Change}
 use Rattle.state.specs.declared.Reason.{Reason}
 use Rattle.state.specs.State.{reason_number}
 use Rattle.trace.specs.Machine.{After, Attempt, Outcome, stopped, stepped, finish, perform, data_of, touched}
-
--- the n bytes at a: the first reason where a is no multiple of n, then the second where they pass the end
-abbrev pub within_of : ℕ → ℕ → ℕ → Reason → Reason → Result (Unit {0}) Reason
-within_of len a n crooked past = cond (eqb (a % n) 0) (cond (leb (a + n) len) (Ok tt) (Err past)) (Err crooked)
 
 -- a change, or the paper's number of a reason
 abbrev pub numbered : Result Change Reason → Result Change ℕ
@@ -25,17 +24,35 @@ abbrev pub memory_of : List ℕ → Outcome ℕ Change → List ℕ
 memory_of m (stopped n) = m
 memory_of m (stepped c n) = n
 
+-- the slices without what is known of them
+pub record Parts : Type 0 where
+  pub mem : MutBor (List ℕ)
+  pub marks : MutBor Marks
+
+abbrev pub parts : Slices → Parts
+parts h = record { mem = h.mem; marks = h.marks }
+
+-- the same slices, with the bytes m in memory and the accesses of a list marked in the maps
+abbrev pub left : Parts → List ℕ → List Access → Parts
+left h m l = record { mem = record h.mem { now = m }; marks = record h.marks { now = marked l h.marks.now } }
+
 pub record End : Type 0 where
   pub turn : Result Change ℕ
-  pub memory : List ℕ
-  pub marks : Marks
+  pub slices : Parts
 
-abbrev pub ended : Result Change Reason → List ℕ → Marks → End
-ended t m p = record { turn = numbered t; memory = m; marks = p }
+abbrev pub ended : Result Change Reason → Parts → End
+ended t h = record { turn = numbered t; slices = h }
 
 -- what follows the fetch, and a whole attempt
-unfoldable pub after_end : After ℕ Change → List ℕ → Marks → End
-after_end F m p = record { turn = turn_of (finish F m); memory = memory_of m (finish F m); marks = marked (data_of F) p }
+unfoldable pub after_end : After ℕ Change → Parts → End
+after_end F h = record { turn = turn_of (finish F h.mem.now); slices = left h (memory_of h.mem.now (finish F h.mem.now)) (data_of F) }
 
-unfoldable pub attempt_end : Attempt ℕ Change → List ℕ → Marks → End
-attempt_end A m p = record { turn = turn_of (perform A m); memory = memory_of m (perform A m); marks = marked (touched A m) p }
+unfoldable pub attempt_end : Attempt ℕ Change → Parts → End
+attempt_end A h = record { turn = turn_of (perform A h.mem.now); slices = left h (memory_of h.mem.now (perform A h.mem.now)) (touched A h.mem.now) }
+
+-- h holds the slices that h₀ holds
+pub record Held (h₀ h : Slices) : Type 0 where
+  pub memory : h.mem.ghost_name ≡ h₀.mem.ghost_name
+  pub maps : h.marks.ghost_name ≡ h₀.marks.ghost_name
+  pub first : h.marks.now.first.ghost_name ≡ h₀.marks.now.first.ghost_name
+  pub written : h.marks.now.written.ghost_name ≡ h₀.marks.now.written.ghost_name

@@ -1,6 +1,6 @@
 -- One step, rule by rule in the order of document 01. It names no memory and no map.
 -- Assumes nothing.
-use Rattle.std.specs.Prelude.{Bool, cond, List, ℕ, ◌+◌, ◌%◌, eqb, leb}
+use Rattle.std.specs.Prelude.{Bool, cond, Result, Ok, Err, List, ℕ, ◌+◌, ◌%◌, eqb, leb}
 use Rattle.word.specs.Word.{extend_of}
 use Rattle.isa.specs.Words.{fields_of, kind_of}
 use Rattle.exec.specs.Exec.{exec_of}
@@ -12,10 +12,15 @@ use Rattle.state.specs.declared.Core.{Core}
 use Rattle.state.specs.declared.State.{State}
 use Rattle.state.specs.declared.Settings.{Settings}
 use Rattle.state.specs.declared.Change.{Change}
+use Rattle.state.specs.declared.Reason.{Reason}
 use Rattle.state.specs.State.{reason_number, with_pc, read_reg, changed}
 use Rattle.rules.specs.Rules.{above, interrupted, next_pc, next, only, writes, exception, breaks, erets, brets, control, set_control}
 use Rattle.trace.specs.Machine.{After, stop, go, load, store, Attempt, halt, quiet, fetch, Machine}
 use Rattle.trace.specs.Via.{via}
+
+-- the n bytes at a: the first reason where a is no multiple of n, then the second where they pass the end
+abbrev pub within_of : ℕ → ℕ → ℕ → Reason → Reason → Result (Unit {0}) Reason
+within_of len a n crooked past = cond (eqb (a % n) 0) (cond (leb (a + n) len) (Ok tt) (Err past)) (Err crooked)
 
 -- ---- rule 7: loads and stores
 

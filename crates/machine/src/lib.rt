@@ -5,12 +5,11 @@ ghost use Rattle.std.specs.Prelude.{◌≡◌, ◌+◌, ◌^◌, ◌<◌, ◌≤
 ghost use Rattle.trace.specs.Access.{reads, stores, each, number, put};
 ghost use Rattle.trace.specs.Machine.{answer};
 ghost use Rattle.maps.specs.Pair.{pair};
-ghost use Rattle.maps.specs.Both.{marked, HasRoom};
+ghost use Rattle.maps.specs.Both.{maps_of, HasRoom};
 ghost use Rattle.machine.specs.Step.{bytes, loaded as loaded_of};
-ghost use Rattle.machine.specs.Step.{loads, stores as stores_of, does, executes as executes_of, attempt, machine};
-ghost use Rattle.machine.specs.Ends.{ended, after_end, attempt_end, within_of};
+ghost use Rattle.machine.specs.Step.{loads, stores as stores_of, does, executes as executes_of, attempt, machine, within_of};
 ghost use Rattle.machine.specs.Calls.{bad_memory, bad_map, bad_address, bad_settings, bad_state, bad_range, fresh_refusal, run_refusal, edit_refusal};
-ghost use Rattle.machine.specs.Calls.{refusal_number, refused, run_of, ran, numbers, answered, started, fresh_of, edit_of, told, bad_budget, Lent, LentWith};
+ghost use Rattle.machine.specs.Calls.{refusal_number, refused, run_of, ran, numbers, answered, started, fresh_of, edit_of, told, bad_budget, Lent};
 
 use exec::{Effect, Width};
 use isa::Fields;
@@ -90,139 +89,6 @@ fn within(len: usize, a: usize, n: usize, crooked: Reason, past: Reason) -> Resu
     Ok(())
 }
 
-// The number in the N bytes at a, and their marks.
-fn take_bytes<const N: usize>(mem: &[u8], marks: &mut Marks, a: usize) -> u32
-    requires width { N ≤ 4 }
-    requires within { a + N ≤ length mem.now }
-    requires room { HasRoom marks.old (a + N) }
-    ensures { (result ≡ number mem.now a N) × (marks.new ≡ marked (each reads a N) marks.old) }
-{
-    marks.read::<N>(a);
-    memory::load::<N>(mem, a)
-}
-
-// The same by the width.
-fn take(mem: &[u8], marks: &mut Marks, a: usize, w: Width) -> u32
-    requires { (a + bytes w ≤ length mem.now) × HasRoom marks.old (a + bytes w) }
-    ensures { (result ≡ number mem.now a (bytes w)) × (marks.new ≡ marked (each reads a (bytes w)) marks.old) }
-{
-    match w {
-        Width::Byte => take_bytes::<1>(mem, marks, a),
-        Width::Half => take_bytes::<2>(mem, marks, a),
-        Width::Word => take_bytes::<4>(mem, marks, a),
-    }
-}
-
-// The number v into the N bytes at a, and their marks.
-fn give_bytes<const N: usize>(mem: &mut [u8], marks: &mut Marks, a: usize, v: u32)
-    requires width { N ≤ 4 }
-    requires within { a + N ≤ length mem.old }
-    requires room { HasRoom marks.old (a + N) }
-    ensures { (mem.new ≡ put mem.old a N v) × (marks.new ≡ marked (each stores a N) marks.old) }
-{
-    marks.store::<N>(a);
-    memory::store::<N>(mem, a, v);
-}
-
-// The same by the width.
-fn give(mem: &mut [u8], marks: &mut Marks, a: usize, w: Width, v: u32)
-    requires { (a + bytes w ≤ length mem.old) × HasRoom marks.old (a + bytes w) }
-    ensures { (mem.new ≡ put mem.old a (bytes w) v) × (marks.new ≡ marked (each stores a (bytes w)) marks.old) }
-{
-    match w {
-        Width::Byte => give_bytes::<1>(mem, marks, a, v),
-        Width::Half => give_bytes::<2>(mem, marks, a, v),
-        Width::Word => give_bytes::<4>(mem, marks, a, v),
-    }
-}
-
-#[tactic(auto, using(crate::proofs::Rules::loading))]
-fn load(
-    mem: &mut [u8],
-    marks: &mut Marks,
-    c: Core,
-    dest: u32,
-    at: u32,
-    w: Width,
-    sign: bool,
-) -> Result<Change, Reason>
-    requires { LentWith mem.old marks.old }
-    ensures { ended result mem.new marks.new ≡ after_end (loads (length mem.old) c dest at w sign) mem.old marks.old }
-{
-    // here and below by `as`, since a usize has no From of a u32
-    let a = at as usize;
-    within(
-        mem.len(),
-        a,
-        size(w),
-        Reason::DataMisaligned,
-        Reason::DataPast,
-    )?;
-    let v = take(mem, marks, a, w);
-    Ok(rules::writes(dest, loaded(w, sign, v), rules::next(c)))
-}
-
-#[tactic(auto, using(crate::proofs::Rules::storing))]
-fn store(
-    mem: &mut [u8],
-    marks: &mut Marks,
-    c: Core,
-    at: u32,
-    w: Width,
-    v: u32,
-) -> Result<Change, Reason>
-    requires { LentWith mem.old marks.old }
-    ensures { ended result mem.new marks.new ≡ after_end (stores_of (length mem.old) c at w v) mem.old marks.old }
-{
-    let a = at as usize;
-    within(
-        mem.len(),
-        a,
-        size(w),
-        Reason::DataMisaligned,
-        Reason::DataPast,
-    )?;
-    give(mem, marks, a, w, v);
-    Ok(rules::only(rules::next(c)))
-}
-
-// The instruction takes effect. Settings and lines come apart, here and above: `rules` asks for the one or the other.
-#[tactic(auto, unfolding(crate::specs::Ends::after_end))]
-fn finish(
-    mem: &mut [u8],
-    marks: &mut Marks,
-    regs: &Regs,
-    s: Settings,
-    lines: u32,
-    c: Core,
-    e: Effect,
-) -> Result<Change, Reason>
-    requires { LentWith mem.old marks.old }
-    ensures { ended result mem.new marks.new ≡ after_end (does s lines (length mem.old) regs.now.r c e) mem.old marks.old }
-{
-    match e {
-        Effect::Stop(reason) => Err(reason),
-        Effect::Next => Ok(rules::only(rules::next(c))),
-        Effect::Put(d, v) => Ok(rules::writes(d, v, rules::next(c))),
-        Effect::Go(t) => Ok(rules::only(c.with_pc(t))),
-        Effect::Link(t) => Ok(rules::writes(31, rules::next_pc(c), c.with_pc(t))),
-        Effect::Load {
-            dest,
-            at,
-            width,
-            sign,
-        } => load(mem, marks, c, dest, at, width, sign),
-        Effect::Store { at, value, width } => store(mem, marks, c, at, width, value),
-        Effect::Read(d, n) => Ok(rules::writes(d, rules::control(s, lines, c, n), rules::next(c))),
-        Effect::Write(n, v) => Ok(rules::only(rules::next(rules::set_control(c, n, v)))),
-        Effect::Raise => Ok(rules::exception(s, c)),
-        Effect::Break => Ok(rules::breaks(s, c)),
-        Effect::Eret => Ok(rules::eret(regs, c)),
-        Effect::Bret => Ok(rules::bret(regs, c)),
-        Effect::Ret => Ok(rules::only(c.with_pc(regs.get(31)))),
-    }
-}
-
 // The word w as an instruction.
 fn executes(regs: &Regs, s: Settings, c: Core, w: u32) -> Effect
     ensures { result ≡ executes_of s regs.now.r c w }
@@ -239,32 +105,176 @@ fn executes(regs: &Regs, s: Settings, c: Core, w: u32) -> Effect
     )
 }
 
-// One attempted step.
-fn step(
-    mem: &mut [u8],
-    marks: &mut Marks,
-    regs: &Regs,
-    s: Settings,
-    lines: u32,
-    c: Core,
-) -> Result<Change, Reason>
-    requires { LentWith mem.old marks.old }
-    ensures { ended result mem.new marks.new ≡ attempt_end (attempt s lines (length mem.old) regs.now.r c) mem.old marks.old }
-{
-    if rules::above(c) {
-        return Err(Reason::Unsound);
-    }
-    if rules::interrupted(lines, c) {
-        return Ok(rules::exception(s, c));
-    }
-    let at = c.pc as usize;
-    within(mem.len(), at, 4, Reason::Misaligned, Reason::Past)?;
-    let w = take(mem, marks, at, Width::Word);
-    let e = executes(regs, s, c, w);
-    finish(mem, marks, regs, s, lines, c, e)
+// The lent slices of a run: memory, and the two maps as one value.
+#[derive(Drop)]
+struct Slices<'m, 'b, 'a> {
+    mem: &'m mut [u8],
+    marks: &'b mut Marks<'a>,
+    ghost fits: { Lent mem.now marks.now.first.now marks.now.written.now },
 }
 
-// At most `budget` steps, until one stops. For these the two maps are one value.
+impl Slices<'_, '_, '_> {
+    ghost use Rattle.machine.specs.Ends.{parts, Held, left, ended, after_end, attempt_end};
+
+    // The number in the N bytes at a.
+    fn number<const N: usize>(&self, a: usize) -> u32
+        requires width { N ≤ 4 }
+        requires within { a + N ≤ length self.now.mem.now }
+        ensures { result ≡ number self.now.mem.now a N }
+    {
+        memory::load::<N>(self.mem, a)
+    }
+
+    // The same, and their marks. Were this no inlined function, or the next, the slices' addresses would be loaded at each use.
+    #[inline(always)]
+    fn take_bytes<const N: usize>(&mut self, a: usize) -> u32
+        requires width { N ≤ 4 }
+        requires within { a + N ≤ length self.old.mem.now }
+        ensures { (result ≡ number self.old.mem.now a N) × (parts self.new ≡ left (parts self.old) self.old.mem.now (each reads a N)) }
+    {
+        self.marks.read::<N>(a);
+        self.number::<N>(a)
+    }
+
+    // The same by the width.
+    #[inline(always)]
+    fn take(&mut self, a: usize, w: Width) -> u32
+        requires { a + bytes w ≤ length self.old.mem.now }
+        ensures { (result ≡ number self.old.mem.now a (bytes w)) × (parts self.new ≡ left (parts self.old) self.old.mem.now (each reads a (bytes w))) }
+    {
+        match w {
+            Width::Byte => self.take_bytes::<1>(a),
+            Width::Half => self.take_bytes::<2>(a),
+            Width::Word => self.take_bytes::<4>(a),
+        }
+    }
+
+    // The number v into the N bytes at a, and their marks.
+    fn give_bytes<const N: usize>(&mut self, a: usize, v: u32)
+        requires width { N ≤ 4 }
+        requires within { a + N ≤ length self.old.mem.now }
+        ensures { parts self.new ≡ left (parts self.old) (put self.old.mem.now a N v) (each stores a N) }
+    {
+        self.marks.store::<N>(a);
+        memory::store::<N>(self.mem, a, v);
+    }
+
+    // The same by the width.
+    fn give(&mut self, a: usize, w: Width, v: u32)
+        requires { a + bytes w ≤ length self.old.mem.now }
+        ensures { parts self.new ≡ left (parts self.old) (put self.old.mem.now a (bytes w) v) (each stores a (bytes w)) }
+    {
+        match w {
+            Width::Byte => self.give_bytes::<1>(a, v),
+            Width::Half => self.give_bytes::<2>(a, v),
+            Width::Word => self.give_bytes::<4>(a, v),
+        }
+    }
+
+    fn load(&mut self, c: Core, dest: u32, at: u32, w: Width, sign: bool) -> Result<Change, Reason>
+        ensures { ended result (parts self.new) ≡ after_end (loads (length self.old.mem.now) c dest at w sign) (parts self.old) }
+    {
+        // here and below by `as`, since a usize has no From of a u32
+        let a = at as usize;
+        within(
+            self.mem.len(),
+            a,
+            size(w),
+            Reason::DataMisaligned,
+            Reason::DataPast,
+        )?;
+        let v = self.take(a, w);
+        Ok(rules::writes(dest, loaded(w, sign, v), rules::next(c)))
+    }
+
+    fn store(&mut self, c: Core, at: u32, w: Width, v: u32) -> Result<Change, Reason>
+        ensures { ended result (parts self.new) ≡ after_end (stores_of (length self.old.mem.now) c at w v) (parts self.old) }
+    {
+        let a = at as usize;
+        within(
+            self.mem.len(),
+            a,
+            size(w),
+            Reason::DataMisaligned,
+            Reason::DataPast,
+        )?;
+        self.give(a, w, v);
+        Ok(rules::only(rules::next(c)))
+    }
+
+    // The instruction takes effect. Settings and lines come apart, here and below: `rules` asks for the one or the other.
+    #[tactic(auto, unfolding(crate::specs::Ends::after_end))]
+    fn finish(
+        &mut self,
+        regs: &Regs,
+        s: Settings,
+        lines: u32,
+        c: Core,
+        e: Effect,
+    ) -> Result<Change, Reason>
+        ensures { ended result (parts self.new) ≡ after_end (does s lines (length self.old.mem.now) regs.now.r c e) (parts self.old) }
+    {
+        match e {
+            Effect::Stop(reason) => Err(reason),
+            Effect::Next => Ok(rules::only(rules::next(c))),
+            Effect::Put(d, v) => Ok(rules::writes(d, v, rules::next(c))),
+            Effect::Go(t) => Ok(rules::only(c.with_pc(t))),
+            Effect::Link(t) => Ok(rules::writes(31, rules::next_pc(c), c.with_pc(t))),
+            Effect::Load {
+                dest,
+                at,
+                width,
+                sign,
+            } => self.load(c, dest, at, width, sign),
+            Effect::Store { at, value, width } => self.store(c, at, width, value),
+            Effect::Read(d, n) => {
+                Ok(rules::writes(d, rules::control(s, lines, c, n), rules::next(c)))
+            },
+            Effect::Write(n, v) => Ok(rules::only(rules::next(rules::set_control(c, n, v)))),
+            Effect::Raise => Ok(rules::exception(s, c)),
+            Effect::Break => Ok(rules::breaks(s, c)),
+            Effect::Eret => Ok(rules::eret(regs, c)),
+            Effect::Bret => Ok(rules::bret(regs, c)),
+            Effect::Ret => Ok(rules::only(c.with_pc(regs.get(31)))),
+        }
+    }
+
+    // One attempted step.
+    fn step(&mut self, regs: &Regs, s: Settings, lines: u32, c: Core) -> Result<Change, Reason>
+        ensures { ended result (parts self.new) ≡ attempt_end (attempt s lines (length self.old.mem.now) regs.now.r c) (parts self.old) }
+    {
+        if rules::above(c) {
+            return Err(Reason::Unsound);
+        }
+        if rules::interrupted(lines, c) {
+            return Ok(rules::exception(s, c));
+        }
+        let at = c.pc as usize;
+        within(self.mem.len(), at, 4, Reason::Misaligned, Reason::Past)?;
+        let w = self.take(at, Width::Word);
+        let e = executes(regs, s, c, w);
+        self.finish(regs, s, lines, c, e)
+    }
+
+    // At most `budget` steps, until one stops. The slices stay those that were lent.
+    fn turns(&mut self, state: &mut State, s: Settings, lines: u32, budget: u32) -> Ran
+        ensures ran { ran result state.new self.new.mem.now (maps_of self.new.marks.now) ≡ answer (machine s lines (length self.old.mem.now)) budget state.old self.old.mem.now (maps_of self.old.marks.now) }
+        ensures held { Held self.old self.new }
+    {
+        for n in 0..budget {
+            match self.step(&state.regs, s, lines, state.core) {
+                Ok(change) => state.apply(change),
+                Err(reason) => return Ran { reason, steps: n },
+            }
+        }
+        Ran {
+            reason: Reason::Spent,
+            steps: budget,
+        }
+    }
+}
+
+// The steps of a run, over the slices that it lends.
 fn steps(
     mem: &mut [u8],
     read: &mut [u8],
@@ -281,16 +291,11 @@ fn steps(
         first: read,
         written,
     };
-    for n in 0..budget {
-        match step(mem, &mut marks, &state.regs, s, lines, state.core) {
-            Ok(change) => state.apply(change),
-            Err(reason) => return Ran { reason, steps: n },
-        }
-    }
-    Ran {
-        reason: Reason::Spent,
-        steps: budget,
-    }
+    let mut lent = Slices {
+        mem,
+        marks: &mut marks,
+    };
+    lent.turns(state, s, lines, budget)
 }
 
 // ---- what is not accepted
