@@ -4,7 +4,7 @@ use Rattle.std.proofs.Common.{◌≡◌, refl, sym, ap, ap₂, ◌∙◌, Bool, 
 use borrow.Author.Tests.{leb-true}
 use lib.Dec.{eqb, leb}
 use Rattle.trace.specs.Access.{Access, reads, stores, each, number, put}
-use Rattle.trace.specs.Machine.{After, stop, Attempt, halt, fetch}
+use Rattle.trace.specs.Machine.{After, stop, finish, data_of, Attempt, halt, fetch}
 use Rattle.maps.specs.declared.Marks.{Marks}
 use Rattle.maps.specs.Both.{HasRoom, marked}
 use Rattle.maps.proofs.Both.{kept_marked}
@@ -22,7 +22,7 @@ use Rattle.rules.specs.Rules.{above, interrupted, exception, next, only, writes}
 use Rattle.machine.specs.Step as step
 use Rattle.machine.specs.Step.{bytes, loaded, within, within_of}
 use Rattle.machine.specs.declared.Slices.{Slices}
-use Rattle.machine.specs.Ends.{Parts, left, End, ended, after_end, attempt_end}
+use Rattle.machine.specs.Ends.{Parts, parts, turn_of, memory_of, left, End, ended, after_end, attempt_end}
 
 -- ---- the two tests in order, by what the code's test hands back
 
@@ -76,7 +76,7 @@ still_lent m p p' l e h =
 
 -- ---- loads and stores
 
-module _ (u : Parts) (c : Core) (a : ℕ) (w : Width) (n : ℕ) (size : n ≡ bytes w) where
+module _ (u : Slices) (c : Core) (a : ℕ) (w : Width) (n : ℕ) (size : n ≡ bytes w) where
   abbrev Tested : Result (Unit {0}) Reason → Type 0
   Tested t = t ≡ within_of (length u.mem.now) a n DataMisaligned DataPast
 
@@ -102,30 +102,32 @@ module _ (u : Parts) (c : Core) (a : ℕ) (w : Width) (n : ℕ) (size : n ≡ by
   unfolding after_end
   store_stops r e v = rw (within_stops r e _)
 
-  pub load_makes : (y : Unit {0}) → Tested (Ok y) → (d : ℕ) (s : Bool) (v x : ℕ) (core : Core) (h : Change) (u' : Parts)
-      → v ≡ number u.mem.now a (bytes w) → u' ≡ left u u.mem.now (each reads a (bytes w))
+  pub load_makes : (y : Unit {0}) → Tested (Ok y) → (d : ℕ) (s : Bool) (v x : ℕ) (core : Core) (h : Change) (u' : Slices)
+      → v ≡ number u.mem.now a (bytes w) → parts u' ≡ left u u.mem.now (each reads a (bytes w))
       → x ≡ loaded w s v → core ≡ next c → h ≡ writes d x core
       → ended (Ok h) u' ≡ after_end (step.loads (length u.mem.now) c d a w s) u
   unfolding after_end
   load_makes y e d s v x core h u' ev em ex ec eh =
       rw (within_goes y e _, eh, ec, ex, ev) (ap (λ q. record { turn = Ok (writes d (loaded w s (number u.mem.now a (bytes w))) (next c)); slices = q }) em)
 
-  pub store_makes : (y : Unit {0}) → Tested (Ok y) → (v : ℕ) (core : Core) (h : Change) (u' : Parts)
-      → u' ≡ left u (put u.mem.now a (bytes w) v) (each stores a (bytes w))
+  pub store_makes : (y : Unit {0}) → Tested (Ok y) → (v : ℕ) (core : Core) (h : Change) (u' : Slices)
+      → parts u' ≡ left u (put u.mem.now a (bytes w) v) (each stores a (bytes w))
       → core ≡ next c → h ≡ only core
       → ended (Ok h) u' ≡ after_end (step.stores (length u.mem.now) c a w v) u
   unfolding after_end
   store_makes y e v core h u' em ec eh =
       rw (within_goes y e _, eh, ec) (ap (λ q. record { turn = Ok (only (next c)); slices = q }) em)
 
--- what a load and a store are proved by
-pub ruleset loading = (bytes_range, inside, load_stops, load_makes)
-
-pub ruleset storing = (bytes_range, inside, store_stops, store_makes)
+-- `after_end` by the parts alone
+abbrev on_parts : After ℕ Change → Parts → End
+on_parts F q = record {
+  turn = turn_of (finish F q.mem.now);
+  slices = record { mem = record q.mem { now = memory_of q.mem.now (finish F q.mem.now) }; marks = record q.marks { now = marked (data_of F) q.marks.now } };
+}
 
 -- ---- a whole attempt, by the first rule that holds
 
-module _ (S : Settings) (lines : ℕ) (r : List ℕ) (c : Core) (u : Parts) where
+module _ (S : Settings) (lines : ℕ) (r : List ℕ) (c : Core) (u : Slices) where
   abbrev Goal : End → Type 0
   Goal x = x ≡ attempt_end (step.attempt S lines (length u.mem.now) r c) u
 
@@ -155,12 +157,12 @@ module _ (S : Settings) (lines : ℕ) (r : List ℕ) (c : Core) (u : Parts) wher
       unfolding attempt_end
       ends_barred k e = sym (known (halt (reason_number k)) (by_address _ (barred (length u.mem.now) c.pc 4 Misaligned Past fetches halt k e)))
 
-      pub ends_fetched : (y : Unit {0}) → Ok y ≡ within_of (length u.mem.now) c.pc 4 Misaligned Past → (w : ℕ) (x : Effect) (u' : Parts) (z : End)
-          → u' ≡ left u u.mem.now (each reads c.pc 4) → w ≡ number u.mem.now c.pc 4 → x ≡ step.executes S r c w
+      pub ends_fetched : (y : Unit {0}) → Ok y ≡ within_of (length u.mem.now) c.pc 4 Misaligned Past → (w : ℕ) (x : Effect) (u' : Slices) (z : End)
+          → parts u' ≡ left u u.mem.now (each reads c.pc 4) → w ≡ number u.mem.now c.pc 4 → x ≡ step.executes S r c w
           → z ≡ after_end (step.does S lines (length u.mem.now) r c x) u' → Goal z
       unfolding attempt_end after_end fetches
       ends_fetched y e w x u' z em ew ex ez =
           ez
           ∙ ap (λ (y : Effect). after_end (step.does S lines (length u.mem.now) r c y) u') ex
-          ∙ ap₂ (λ (y : ℕ) (q : Parts). after_end (step.does S lines (length u.mem.now) r c (step.executes S r c y)) q) ew em
+          ∙ ap₂ (λ (y : ℕ) (q : Parts). on_parts (step.does S lines (length u.mem.now) r c (step.executes S r c y)) q) ew em
           ∙ sym (known fetches (by_address _ (open_to (length u.mem.now) c.pc 4 Misaligned Past fetches halt y e)))

@@ -73,22 +73,22 @@ module _ (S : Settings) (lines budget : ℕ) (h₀ : Slices) (s₀ : State) wher
         (λ j. record { reason = 0; steps = e j; config = s; memory = h.mem.now; maps = maps_of h.marks.now }) ∙ sym (going_end M budget g.going b)
 
     module _ (t : Result Change Reason) (h' : Slices) (b : i < budget)
-        (e : ended t (parts h') ≡ attempt_end (attempt S lines (length h.mem.now) s.regs.r s.core) (parts h)) where
+        (e : ended t h' ≡ attempt_end (attempt S lines (length h.mem.now) s.regs.r s.core) h) where
       -- the attempt, by the length that the run began with
       A : Attempt ℕ Change
       A = attempt S lines (length h₀.mem.now) s.regs.r s.core
 
-      end : ended t (parts h') ≡ attempt_end A (parts h)
+      end : ended t h' ≡ attempt_end A h
       unfolding A
-      end = e ∙ ap (λ (n : ℕ). attempt_end (attempt S lines n s.regs.r s.core) (parts h)) g.held.memory
+      end = e ∙ ap (λ (n : ℕ). attempt_end (attempt S lines n s.regs.r s.core) h) g.held.memory
 
       turn_is : numbered t ≡ turn_of (perform A h.mem.now)
       unfolding attempt_end
       turn_is = ap (λ (x : End). x.turn) end
 
-      slices_are : parts h' ≡ left (parts h) (memory_of h.mem.now (perform A h.mem.now)) (touched (via (changed s) A) h.mem.now)
+      slices_are : parts h' ≡ left h (memory_of h.mem.now (perform A h.mem.now)) (touched (via (changed s) A) h.mem.now)
       unfolding attempt_end
-      slices_are = ap (λ (x : End). x.slices) end ∙ ap (left (parts h) (memory_of h.mem.now (perform A h.mem.now))) (sym (touched_via (changed s) h.mem.now A))
+      slices_are = ap (λ (x : End). x.slices) end ∙ ap (left h (memory_of h.mem.now (perform A h.mem.now))) (sym (touched_via (changed s) h.mem.now A))
 
       memory_is : h'.mem.now ≡ memory_of h.mem.now (perform A h.mem.now)
       memory_is = ap (λ (x : Parts). x.mem.now) slices_are

@@ -33,21 +33,21 @@ abbrev pub parts : Slices → Parts
 parts h = record { mem = h.mem; marks = h.marks }
 
 -- the same slices, with the bytes m in memory and the accesses of a list marked in the maps
-abbrev pub left : Parts → List ℕ → List Access → Parts
+abbrev pub left : Slices → List ℕ → List Access → Parts
 left h m l = record { mem = record h.mem { now = m }; marks = record h.marks { now = marked l h.marks.now } }
 
 pub record End : Type 0 where
   pub turn : Result Change ℕ
   pub slices : Parts
 
-abbrev pub ended : Result Change Reason → Parts → End
-ended t h = record { turn = numbered t; slices = h }
+abbrev pub ended : Result Change Reason → Slices → End
+ended t h = record { turn = numbered t; slices = parts h }
 
 -- what follows the fetch, and a whole attempt
-unfoldable pub after_end : After ℕ Change → Parts → End
+unfoldable pub after_end : After ℕ Change → Slices → End
 after_end F h = record { turn = turn_of (finish F h.mem.now); slices = left h (memory_of h.mem.now (finish F h.mem.now)) (data_of F) }
 
-unfoldable pub attempt_end : Attempt ℕ Change → Parts → End
+unfoldable pub attempt_end : Attempt ℕ Change → Slices → End
 attempt_end A h = record { turn = turn_of (perform A h.mem.now); slices = left h (memory_of h.mem.now (perform A h.mem.now)) (touched A h.mem.now) }
 
 -- h holds the slices that h₀ holds

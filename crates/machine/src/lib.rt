@@ -130,7 +130,7 @@ impl Slices<'_, '_, '_> {
     fn take_bytes<const N: usize>(&mut self, a: usize) -> u32
         requires width { N ≤ 4 }
         requires within { a + N ≤ length self.old.mem.now }
-        ensures { (result ≡ number self.old.mem.now a N) × (parts self.new ≡ left (parts self.old) self.old.mem.now (each reads a N)) }
+        ensures { (result ≡ number self.old.mem.now a N) × (parts self.new ≡ left self.old self.old.mem.now (each reads a N)) }
     {
         self.marks.read::<N>(a);
         self.number::<N>(a)
@@ -140,7 +140,7 @@ impl Slices<'_, '_, '_> {
     #[inline(always)]
     fn take(&mut self, a: usize, w: Width) -> u32
         requires { a + bytes w ≤ length self.old.mem.now }
-        ensures { (result ≡ number self.old.mem.now a (bytes w)) × (parts self.new ≡ left (parts self.old) self.old.mem.now (each reads a (bytes w))) }
+        ensures { (result ≡ number self.old.mem.now a (bytes w)) × (parts self.new ≡ left self.old self.old.mem.now (each reads a (bytes w))) }
     {
         match w {
             Width::Byte => self.take_bytes::<1>(a),
@@ -153,7 +153,7 @@ impl Slices<'_, '_, '_> {
     fn give_bytes<const N: usize>(&mut self, a: usize, v: u32)
         requires width { N ≤ 4 }
         requires within { a + N ≤ length self.old.mem.now }
-        ensures { parts self.new ≡ left (parts self.old) (put self.old.mem.now a N v) (each stores a N) }
+        ensures { parts self.new ≡ left self.old (put self.old.mem.now a N v) (each stores a N) }
     {
         self.marks.store::<N>(a);
         memory::store::<N>(self.mem, a, v);
@@ -162,7 +162,7 @@ impl Slices<'_, '_, '_> {
     // The same by the width.
     fn give(&mut self, a: usize, w: Width, v: u32)
         requires { a + bytes w ≤ length self.old.mem.now }
-        ensures { parts self.new ≡ left (parts self.old) (put self.old.mem.now a (bytes w) v) (each stores a (bytes w)) }
+        ensures { parts self.new ≡ left self.old (put self.old.mem.now a (bytes w) v) (each stores a (bytes w)) }
     {
         match w {
             Width::Byte => self.give_bytes::<1>(a, v),
@@ -172,7 +172,7 @@ impl Slices<'_, '_, '_> {
     }
 
     fn load(&mut self, c: Core, dest: u32, at: u32, w: Width, sign: bool) -> Result<Change, Reason>
-        ensures { ended result (parts self.new) ≡ after_end (loads (length self.old.mem.now) c dest at w sign) (parts self.old) }
+        ensures { ended result self.new ≡ after_end (loads (length self.old.mem.now) c dest at w sign) self.old }
     {
         // here and below by `as`, since a usize has no From of a u32
         let a = at as usize;
@@ -188,7 +188,7 @@ impl Slices<'_, '_, '_> {
     }
 
     fn store(&mut self, c: Core, at: u32, w: Width, v: u32) -> Result<Change, Reason>
-        ensures { ended result (parts self.new) ≡ after_end (stores_of (length self.old.mem.now) c at w v) (parts self.old) }
+        ensures { ended result self.new ≡ after_end (stores_of (length self.old.mem.now) c at w v) self.old }
     {
         let a = at as usize;
         within(
@@ -212,7 +212,7 @@ impl Slices<'_, '_, '_> {
         c: Core,
         e: Effect,
     ) -> Result<Change, Reason>
-        ensures { ended result (parts self.new) ≡ after_end (does s lines (length self.old.mem.now) regs.now.r c e) (parts self.old) }
+        ensures { ended result self.new ≡ after_end (does s lines (length self.old.mem.now) regs.now.r c e) self.old }
     {
         match e {
             Effect::Stop(reason) => Err(reason),
@@ -241,7 +241,7 @@ impl Slices<'_, '_, '_> {
 
     // One attempted step.
     fn step(&mut self, regs: &Regs, s: Settings, lines: u32, c: Core) -> Result<Change, Reason>
-        ensures { ended result (parts self.new) ≡ attempt_end (attempt s lines (length self.old.mem.now) regs.now.r c) (parts self.old) }
+        ensures { ended result self.new ≡ attempt_end (attempt s lines (length self.old.mem.now) regs.now.r c) self.old }
     {
         if rules::above(c) {
             return Err(Reason::Unsound);

@@ -2,7 +2,6 @@
 -- Assumes nothing.
 use Rattle.std.proofs.Common.{sym, ◌∙◌, arith}
 use Rattle.std.proofs.lemmas.Result.{err_from_is_err_and}
-use Rattle.machine.specs.Ends.{parts}
 use Rattle.machine.proofs.Rules.{bytes_range, inside, load_stops, load_makes}
 use Rattle.machine.proofs.Slices.load.Goals as goal
 
@@ -12,10 +11,10 @@ within-requires c = (omega (arith, c.size.ensures, (bytes_range c.args.w).0), om
 pub returns-in_err-within : goal.returns-in_err-within
 returns-in_err-within c =
     let p = err_from_is_err_and c.from_residual.result c.from_residual.ensures.1 in
-    rw (p.1, p.2) (load_stops (parts c.args.self.now) c.args.c c.args.at c.args.w c.size.result c.size.ensures _ (sym c.in_err-within.was ∙ c.within.ensures) c.args.dest c.args.sign)
+    rw (p.1, p.2) (load_stops c.args.self.now c.args.c c.args.at c.args.w c.size.result c.size.ensures _ (sym c.in_err-within.was ∙ c.within.ensures) c.args.dest c.args.sign)
 
 pub take-v-requires : goal.take-v-requires
-take-v-requires c = let h = inside (parts c.args.self.now) c.args.c c.args.at c.args.w c.size.result c.size.ensures _ (sym c.in_ok-within.was ∙ c.within.ensures) in h
+take-v-requires c = let h = inside c.args.self.now c.args.c c.args.at c.args.w c.size.result c.size.ensures _ (sym c.in_ok-within.was ∙ c.within.ensures) in h
 
 pub returns : goal.returns
-returns c = load_makes (parts c.args.self.now) c.args.c c.args.at c.args.w c.size.result c.size.ensures _ (sym c.in_ok-within.was ∙ c.within.ensures) c.args.dest c.args.sign _ _ _ _ _ c.take-v.ensures.0 c.take-v.ensures.1 c.loaded.ensures c.next.ensures c.writes.ensures
+returns c = load_makes c.args.self.now c.args.c c.args.at c.args.w c.size.result c.size.ensures _ (sym c.in_ok-within.was ∙ c.within.ensures) c.args.dest c.args.sign _ _ _ _ c.take-v.new.self c.take-v.ensures.0 c.take-v.ensures.1 c.loaded.ensures c.next.ensures c.writes.ensures

@@ -4,21 +4,21 @@ use Rattle.std.proofs.Common.{ℕ, sym, ap, ◌∙◌, length}
 use Rattle.std.proofs.lemmas.Result.{err_from_is_err_and}
 use Rattle.state.specs.declared.Reason.TheVariants.{Misaligned, Past}
 use Rattle.machine.specs.Step.{does}
-use Rattle.machine.specs.Ends.{parts, after_end}
+use Rattle.machine.specs.Ends.{after_end}
 use Rattle.machine.specs.Ends.{Parts}
 use Rattle.machine.proofs.Rules.{not_past, ends_above, ends_interrupted, ends_barred, ends_fetched}
 use Rattle.machine.proofs.Slices.step.Goals as goal
 
 pub returns-then-above : goal.returns-then-above
-returns-then-above c = ends_above c.args.s c.args.lines c.args.regs.now.r c.args.c (parts c.args.self.now) (sym c.above.ensures ∙ c.if-above.true)
+returns-then-above c = ends_above c.args.s c.args.lines c.args.regs.now.r c.args.c c.args.self.now (sym c.above.ensures ∙ c.if-above.true)
 
 pub returns-then-interrupted : goal.returns-then-interrupted
-returns-then-interrupted c = ends_interrupted c.args.s c.args.lines c.args.regs.now.r c.args.c (parts c.args.self.now) (sym c.above.ensures ∙ c.if-above.false) (sym c.interrupted.ensures ∙ c.if-interrupted.true) _ c.exception.ensures
+returns-then-interrupted c = ends_interrupted c.args.s c.args.lines c.args.regs.now.r c.args.c c.args.self.now (sym c.above.ensures ∙ c.if-above.false) (sym c.interrupted.ensures ∙ c.if-interrupted.true) _ c.exception.ensures
 
 pub returns-in_err-within : goal.returns-in_err-within
 returns-in_err-within c =
     let p = err_from_is_err_and c.from_residual.result c.from_residual.ensures.1 in
-    rw (p.1, p.2) (ends_barred c.args.s c.args.lines c.args.regs.now.r c.args.c (parts c.args.self.now) (sym c.above.ensures ∙ c.if-above.false) (sym c.interrupted.ensures ∙ c.if-interrupted.false) _ (sym c.in_err-within.was ∙ c.within.ensures))
+    rw (p.1, p.2) (ends_barred c.args.s c.args.lines c.args.regs.now.r c.args.c c.args.self.now (sym c.above.ensures ∙ c.if-above.false) (sym c.interrupted.ensures ∙ c.if-interrupted.false) _ (sym c.in_err-within.was ∙ c.within.ensures))
 
 pub take-w-requires : goal.take-w-requires
 take-w-requires c =
@@ -26,4 +26,4 @@ take-w-requires c =
     h
 
 pub returns : goal.returns
-returns c = ends_fetched c.args.s c.args.lines c.args.regs.now.r c.args.c (parts c.args.self.now) (sym c.above.ensures ∙ c.if-above.false) (sym c.interrupted.ensures ∙ c.if-interrupted.false) _ (sym c.in_ok-within.was ∙ c.within.ensures) _ _ _ _ c.take-w.ensures.1 c.take-w.ensures.0 c.executes-e.ensures (c.finish.ensures ∙ ap (λ (n : ℕ). after_end (does c.args.s c.args.lines n c.args.regs.now.r c.args.c c.executes-e.result) (parts c.take-w.new.self)) (ap (λ (h : Parts). length h.mem.now) c.take-w.ensures.1))
+returns c = ends_fetched c.args.s c.args.lines c.args.regs.now.r c.args.c c.args.self.now (sym c.above.ensures ∙ c.if-above.false) (sym c.interrupted.ensures ∙ c.if-interrupted.false) _ (sym c.in_ok-within.was ∙ c.within.ensures) _ _ c.take-w.new.self _ c.take-w.ensures.1 c.take-w.ensures.0 c.executes-e.ensures (c.finish.ensures ∙ ap (λ (n : ℕ). after_end (does c.args.s c.args.lines n c.args.regs.now.r c.args.c c.executes-e.result) c.take-w.new.self) (ap (λ (h : Parts). length h.mem.now) c.take-w.ensures.1))
