@@ -9,7 +9,7 @@ use state::Reason;
 use word::Undefined;
 
 // How much a load or a store moves.
-#[derive(Clone, Copy)]
+#[derive(Clone, Copy, Debug, PartialEq, Eq)]
 pub enum Width {
     Byte,
     Half,
@@ -17,7 +17,7 @@ pub enum Width {
 }
 
 // What a step does to the state and to memory. Register 0 is never written.
-#[derive(Clone, Copy)]
+#[derive(Clone, Copy, Debug, PartialEq, Eq)]
 pub enum Effect {
     // a stop, with its reason
     Stop(Reason),
@@ -41,7 +41,7 @@ pub enum Effect {
         value: u32,
         width: Width,
     },
-    // a register takes a control register, which stays a number: `rules::control` answers for any; pc + 4
+    // a register takes a control register, by its number, of which an effect holds any; pc + 4
     Read(u32, u32),
     // a control register takes a value; pc + 4
     Write(u32, u32),

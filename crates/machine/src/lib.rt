@@ -14,7 +14,7 @@ ghost use Rattle.machine.specs.Calls.{refusal_number, refused, run_of, ran, numb
 use exec::{Effect, Width};
 use isa::Fields;
 use maps::Marks;
-use state::{Change, Core, Reason, Regs, Settings, State};
+use state::{Change, Core, Reason, Settings, State};
 use std::ops::Range;
 
 // What an accepted run tells: why it ended, and the steps made.
@@ -90,16 +90,16 @@ fn within(len: usize, a: usize, n: usize, crooked: Reason, past: Reason) -> Resu
 }
 
 // The word w as an instruction.
-fn executes(regs: &Regs, s: Settings, c: Core, w: u32) -> Effect
-    ensures { result ≡ executes_of s regs.now.r c w }
+fn executes(state: &State, s: Settings, w: u32) -> Effect
+    ensures { result ≡ executes_of s state.now.regs.r state.now.core w }
 {
     let f = Fields::from(w);
     exec::exec(
         isa::decode(w),
         f,
-        regs.get(f.a),
-        regs.get(f.b),
-        c.pc,
+        state.regs.get(f.a),
+        state.regs.get(f.b),
+        state.core.pc,
         s.multiplier,
         s.divider,
     )
@@ -206,14 +206,14 @@ impl Slices<'_, '_, '_> {
     #[tactic(auto, unfolding(crate::specs::Ends::after_end))]
     fn finish(
         &mut self,
-        regs: &Regs,
+        state: &State,
         s: Settings,
         lines: u32,
-        c: Core,
         e: Effect,
     ) -> Result<Change, Reason>
-        ensures { ended result self.new ≡ after_end (does s lines (length self.old.mem.now) regs.now.r c e) self.old }
+        ensures { ended result self.new ≡ after_end (does s lines (length self.old.mem.now) state.now.regs.r state.now.core e) self.old }
     {
+        let c = state.core;
         match e {
             Effect::Stop(reason) => Err(reason),
             Effect::Next => Ok(rules::only(rules::next(c))),
@@ -233,16 +233,17 @@ impl Slices<'_, '_, '_> {
             Effect::Write(n, v) => Ok(rules::only(rules::next(rules::set_control(c, n, v)))),
             Effect::Raise => Ok(rules::exception(s, c)),
             Effect::Break => Ok(rules::breaks(s, c)),
-            Effect::Eret => Ok(rules::eret(regs, c)),
-            Effect::Bret => Ok(rules::bret(regs, c)),
-            Effect::Ret => Ok(rules::only(c.with_pc(regs.get(31)))),
+            Effect::Eret => Ok(rules::eret(&state.regs, c)),
+            Effect::Bret => Ok(rules::bret(&state.regs, c)),
+            Effect::Ret => Ok(rules::only(c.with_pc(state.regs.get(31)))),
         }
     }
 
     // One attempted step.
-    fn step(&mut self, regs: &Regs, s: Settings, lines: u32, c: Core) -> Result<Change, Reason>
-        ensures { ended result self.new ≡ attempt_end (attempt s lines (length self.old.mem.now) regs.now.r c) self.old }
+    fn step(&mut self, state: &State, s: Settings, lines: u32) -> Result<Change, Reason>
+        ensures { ended result self.new ≡ attempt_end (attempt s lines (length self.old.mem.now) state.now.regs.r state.now.core) self.old }
     {
+        let c = state.core;
         if rules::above(c) {
             return Err(Reason::Unsound);
         }
@@ -252,8 +253,8 @@ impl Slices<'_, '_, '_> {
         let at = c.pc as usize;
         within(self.mem.len(), at, 4, Reason::Misaligned, Reason::Past)?;
         let w = self.take(at, Width::Word);
-        let e = executes(regs, s, c, w);
-        self.finish(regs, s, lines, c, e)
+        let e = executes(state, s, w);
+        self.finish(state, s, lines, e)
     }
 
     // At most `budget` steps, until one stops. The slices stay those that were lent.
@@ -262,7 +263,7 @@ impl Slices<'_, '_, '_> {
         ensures held { Held self.old self.new }
     {
         for n in 0..budget {
-            match self.step(&state.regs, s, lines, state.core) {
+            match self.step(state, s, lines) {
                 Ok(change) => state.apply(change),
                 Err(reason) => return Ran { reason, steps: n },
             }

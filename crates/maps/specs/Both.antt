@@ -9,7 +9,7 @@ use Rattle.maps.specs.declared.Marks.{Marks}
 abbrev pub maps_of : Marks → Maps
 maps_of m = pair m.first.now m.written.now
 
--- both maps have bits for the addresses below n
+-- both maps have bits for the addresses below n, and n is no more than an address can be
 abbrev pub HasRoom : Marks → ℕ → Type 0
 HasRoom m n = Room m.first.now m.written.now n
 

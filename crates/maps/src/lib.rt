@@ -1,4 +1,4 @@
-// Marks in the two lent maps. Each function asks that both maps have a bit for each of its bytes.
+// Marks in the two lent maps. Each function asks that the maps that it is lent have a bit for each of its bytes.
 #![tactic(auto)]
 
 ghost use Rattle.std.specs.Prelude.{◌≡◌, ◌+◌, ◌-◌, ◌*◌, ◌/◌, ◌%◌, ◌^◌, ◌<◌, ◌≤◌, length, replicate};

@@ -1,4 +1,4 @@
--- The exported calls: states and settings as words, and what each call leaves of all that it is lent.
+-- The exported calls: the lengths of the words that they are lent, and what each call leaves of all that it is lent.
 -- Assumes nothing.
 use Rattle.std.specs.Prelude.{Bool, ◌&&◌, cond, List, [], ◌∷◌, ℕ, ◌+◌, eqb, length}
 use Rattle.maps.specs.Pair.{pair}
@@ -8,7 +8,7 @@ use Rattle.trace.specs.Maps.{Maps}
 use Rattle.trace.specs.Machine.{Answer}
 use Rattle.machine.specs.Calls.{Started, fresh_of, run_of, Verdict, Refused, Yes, No, edit_of}
 
--- ---- words
+-- ---- lengths
 
 -- the lengths of a state's words and of settings
 abbrev pub fits : ℕ → ℕ → Bool

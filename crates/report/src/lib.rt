@@ -7,7 +7,7 @@ ghost use Rattle.report.specs.Lines.{stop_line, ctl_line, register_line, registe
 
 use arrayvec::ArrayString;
 use itoa::Buffer;
-use state::{Core, State};
+use state::{Core, Regs, State};
 use std::marker::Model;
 
 // A text of at most 1024 bytes, which lie in the value itself: there is no heap, so that the program can't run out of memory.
@@ -30,7 +30,7 @@ fn glyph(n: u8) -> char
     char::from(if n < 10 { b'0' + n } else { b'A' + (n - 10) })
 }
 
-// Each writer asks that there is room for what it appends.
+// Each writer asks that there is room for what it appends, which differs from one to the next, and so is no fact of the type.
 impl Page {
     pub fn new() -> Page
         ensures { result ≡ [] }
@@ -147,12 +147,12 @@ impl Page {
 
     // The lines of the registers: at most 32 times 13 bytes, and the last line asks room for any number, 18 more.
     #[tactic(auto, using(std::proofs::Common::append_assoc), unfolding(crate::specs::Lines::register_lines))]
-    fn register_lines(&mut self, r: &[u32; 32])
+    fn register_lines(&mut self, regs: &Regs)
         requires { length self.old + 434 ≤ 1024 }
-        ensures text { self.new ≡ self.old ++ register_lines 32 r.now }
+        ensures text { self.new ≡ self.old ++ register_lines 32 regs.now.r }
         ensures room { length self.new ≤ length self.old + 416 }
     {
-        for (i, v) in r.iter().enumerate() {
+        for (i, v) in regs.r.iter().enumerate() {
             self.register_line(i, *v);
         }
     }
@@ -169,7 +169,8 @@ impl Page {
     }
 }
 
-// The lines of an accepted call. `read` and `written` are the set bits of the two maps. The reason is a number: any is printed, as before.
+// The lines of an accepted call. `read` and `written` are the set bits of the two maps. The reason is a number, and so is a refusal's below: the
+// promise is the lines of every number.
 #[tactic(auto, using(std::proofs::Common::append_assoc), unfolding(crate::specs::Lines::lines_of))]
 pub fn report(reason: u32, steps: u32, s: &State, read: usize, written: usize) -> Page
     ensures { result ≡ lines_of reason steps s.now read written }
@@ -177,7 +178,7 @@ pub fn report(reason: u32, steps: u32, s: &State, read: usize, written: usize) -
     let mut page = Page::new();
     page.stop_line(reason, steps, s.core.pc);
     page.ctl_line(&s.core);
-    page.register_lines(&s.regs.r);
+    page.register_lines(&s.regs);
     page.maps_line(read, written);
     page
 }

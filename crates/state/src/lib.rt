@@ -1,5 +1,5 @@
-// The processor's state and settings: one setter for each word, the one way in which a register is written, and the order of their
-// words.
+// The processor's state and settings: a setter for each word, the one way in which a register is written, the reasons for which a run ends,
+// and states and settings as words.
 #![tactic(auto)]
 
 ghost use Rattle.std.specs.Prelude.{◌≡◌};
@@ -40,7 +40,8 @@ pub struct Settings {
     pub divider: bool,
 }
 
-// What a step changes: one register, or none where that is register 0, and the rest of the state.
+// What a step changes: one register, or none where that is register 0 (no Option: a write to r0 is dropped in any case), and the rest of
+// the state.
 #[derive(Clone, Copy, Debug, PartialEq, Eq)]
 pub struct Change {
     pub dest: u32,
@@ -135,8 +136,7 @@ impl Regs {
         self
     }
 
-    // The same in place. What `with` hands back differs in one register alone, so that one is stored. The test stays, for speed:
-    // `self.r[k] = self.with(i, v).r[k]` alone proves too, and takes a run from 151 to 161 machine instructions a step.
+    // The same in place. What `with` hands back differs in one register alone, so that one is stored, and none where that would be r0.
     #[tactic(auto, using(crate::proofs::Writes::taken_back, crate::proofs::Writes::write_none))]
     pub fn set(&mut self, i: u32, v: u32)
         ensures { self.new ≡ write_regs self.old i v }

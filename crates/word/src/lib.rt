@@ -1,4 +1,4 @@
-// Arithmetic of 32-bit words. Every function is total, and its contract is one equation to a definition of specs/.
+// Arithmetic of 32-bit words. Every function takes any words, and its contract is one equation to a definition of specs/.
 #![tactic(auto)]
 
 ghost use Rattle.std.specs.Prelude.{◌≡◌, ◌<◌, ◌≤◌};
