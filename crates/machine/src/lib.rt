@@ -4,8 +4,7 @@
 ghost use Rattle.std.specs.Prelude.{◌≡◌, ◌+◌, ◌^◌, ◌<◌, ◌≤◌, length};
 ghost use Rattle.trace.specs.Access.{reads, stores, each, number, put};
 ghost use Rattle.trace.specs.Machine.{answer};
-ghost use Rattle.maps.specs.Pair.{pair};
-ghost use Rattle.maps.specs.Both.{maps_of, HasRoom};
+ghost use Rattle.maps.specs.Both.{maps_of};
 ghost use Rattle.machine.specs.Step.{bytes, loaded as loaded_of};
 ghost use Rattle.machine.specs.Step.{loads, stores as stores_of, does, executes as executes_of, attempt, machine, within_of};
 ghost use Rattle.machine.specs.Calls.{bad_memory, bad_map, bad_address, bad_settings, bad_state, bad_range, fresh_refusal, run_refusal, edit_refusal};
@@ -258,7 +257,7 @@ impl Slices<'_, '_, '_> {
     }
 
     // At most `budget` steps, until one stops. The slices stay those that were lent.
-    fn turns(&mut self, state: &mut State, s: Settings, lines: u32, budget: u32) -> Ran
+    fn steps(&mut self, state: &mut State, s: Settings, lines: u32, budget: u32) -> Ran
         ensures ran { ran result state.new self.new.mem.now (maps_of self.new.marks.now) ≡ answer (machine s lines (length self.old.mem.now)) budget state.old self.old.mem.now (maps_of self.old.marks.now) }
         ensures held { Held self.old self.new }
     {
@@ -273,30 +272,6 @@ impl Slices<'_, '_, '_> {
             steps: budget,
         }
     }
-}
-
-// The steps of a run, over the slices that it lends.
-fn steps(
-    mem: &mut [u8],
-    read: &mut [u8],
-    written: &mut [u8],
-    state: &mut State,
-    s: Settings,
-    lines: u32,
-    budget: u32,
-) -> Ran
-    requires { Lent mem.old read.old written.old }
-    ensures { ran result state.new mem.new (pair read.new written.new) ≡ answer (machine s lines (length mem.old)) budget state.old mem.old (pair read.old written.old) }
-{
-    let mut marks = Marks {
-        first: read,
-        written,
-    };
-    let mut lent = Slices {
-        mem,
-        marks: &mut marks,
-    };
-    lent.turns(state, s, lines, budget)
 }
 
 // ---- what is not accepted
@@ -432,7 +407,15 @@ pub fn run(
     ensures { answered result state.new mem.new read.new written.new ≡ run_of mem.old read.old written.old state.old s lines budget }
 {
     run_refusal(mem.len(), read.len(), written.len(), s, state, budget)?;
-    Ok(steps(mem, read, written, state, s, lines, budget))
+    let mut marks = Marks {
+        first: read,
+        written,
+    };
+    let mut lent = Slices {
+        mem,
+        marks: &mut marks,
+    };
+    Ok(lent.steps(state, s, lines, budget))
 }
 
 // Whether an edit of the bytes of the range leaves the run as it is.

@@ -2,11 +2,10 @@
 -- Assumes nothing.
 use Rattle.std.proofs.Common.{ℕ, sym, ap, ◌∙◌, length}
 use Rattle.std.proofs.lemmas.Result.{err_from_is_err_and}
-use Rattle.state.specs.declared.Reason.TheVariants.{Misaligned, Past}
 use Rattle.machine.specs.Step.{does}
 use Rattle.machine.specs.Ends.{after_end}
 use Rattle.machine.specs.Ends.{Parts}
-use Rattle.machine.proofs.Rules.{not_past, ends_above, ends_interrupted, ends_barred, ends_fetched}
+use Rattle.machine.proofs.Rules.{ends_above, ends_interrupted, ends_barred, ends_fetched}
 use Rattle.machine.proofs.Slices.step.Goals as goal
 
 pub returns-then-above : goal.returns-then-above

@@ -1,7 +1,7 @@
--- `machine::Slices::turns` meets its contract: the loop's invariant is `Running`.
+-- `machine::Slices::steps` meets its contract: the loop's invariant is `Running`.
 -- Assumes nothing.
 use Rattle.machine.proofs.Running.{stops, held_on, turns}
-use Rattle.machine.proofs.Slices.turns.Goals as goal
+use Rattle.machine.proofs.Slices.steps.Goals as goal
 
 pub returns-in-Err : goal.returns-in-Err
 returns-in-Err c = record {
