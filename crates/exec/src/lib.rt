@@ -75,6 +75,7 @@ fn branch(f: Fields, pc: u32, taken: bool) -> Effect
     Effect::Next
 }
 
+// Width and sign come apart, here and above: a store has no sign.
 fn load(f: Fields, a: u32, width: Width, sign: bool) -> Effect
     ensures { result ≡ load_of f a width sign }
 {
@@ -213,7 +214,7 @@ fn listed(k: Kind, f: Fields, a: u32, b: u32, pc: u32, mul: bool, div: bool) -> 
     }
 }
 
-// A word, by its kind: one that is not in the list has none.
+// A word, by its kind: one that is not in the list has none. The other parameters are only handed on, and so are no struct.
 pub fn exec(k: Option<Kind>, f: Fields, a: u32, b: u32, pc: u32, mul: bool, div: bool) -> Effect
     ensures { result ≡ exec_of k f a b pc mul div }
 {

@@ -21,7 +21,7 @@ fn settings() -> Settings
     }
 }
 
-// The lines of an image.
+// The lines of an image, in slices as `machine::run` takes them.
 pub fn lines(mem: &mut [u8], read: &mut [u8], written: &mut [u8]) -> Page
     ensures { printed result mem.new read.new written.new ≡ print_of mem.old read.old written.old }
 {

@@ -35,6 +35,7 @@ pub enum Refusal {
 }
 
 impl Refusal {
+    // As `Reason::number`.
     pub fn number(self) -> u32
         ensures { result ≡ refusal_number self }
     {
@@ -54,6 +55,7 @@ pub fn numbers(answer: Result<Ran, Refusal>) -> (u32, u32)
 
 // ---- loads and stores
 
+// The bytes of a width: a function beside its definition, and no discriminant of `exec`, which knows no memory.
 fn size(w: Width) -> usize
     ensures { result ≡ bytes w }
 {

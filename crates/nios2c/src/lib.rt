@@ -9,7 +9,7 @@ ghost use Rattle.nios2c.specs.Words.{fits, afresh, fresh_words, ran, run_words, 
 use machine::Refusal;
 use state::{Settings, SettingsWords, State, StateWords};
 
-// State and settings, where each has the words that it needs.
+// State and settings, where each has the words that it needs: C hands slices.
 fn taken(state: &[u32], settings: &[u32]) -> Option<(State, Settings)>
     ensures some { IfSome result (λ x. (length state.now ≡ 37) × (length settings.now ≡ 6) × (x.0 ≡ state_of state.now) × (x.1 ≡ settings_of settings.now)) }
     ensures none { IfNone result (fits (length state.now) (length settings.now) ≡ false) }

@@ -73,6 +73,7 @@ pub enum Reason {
 }
 
 impl Reason {
+    // The paper's number, which `u32::from` would not say; by `as`, Rust's form for a discriminant.
     pub fn number(self) -> u32
         ensures { result ≡ reason_number self }
     {
