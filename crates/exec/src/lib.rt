@@ -41,7 +41,7 @@ pub enum Effect {
         value: u32,
         width: Width,
     },
-    // a register takes a control register, by its number, of which an effect holds any; pc + 4
+    // a register takes a control register, by the number that `rules::control` is asked with; pc + 4
     Read(u32, u32),
     // a control register takes a value; pc + 4
     Write(u32, u32),

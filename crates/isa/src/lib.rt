@@ -7,8 +7,7 @@ ghost use Rattle.isa.specs.Words.{fields_of, kind_of};
 use Kind::*;
 
 // One for each mnemonic of the list, in the list's order; the io forms after their OP list.
-// No Debug: nothing prints a kind.
-#[derive(Clone, Copy, PartialEq, Eq)]
+#[derive(Clone, Copy, Debug, PartialEq, Eq)]
 pub enum Kind {
     Call,
     Ldbu,

@@ -129,7 +129,7 @@ pub record Started : Type 0 where
 abbrev pub started : Result (Unit {0}) Refusal → State → List ℕ → List ℕ → Started
 started r s read written = record { number = refused r; state = s; maps = pair read written }
 
--- it clears both maps; with a number the old state is handed back and nothing is changed
+-- it clears both maps; with a number the old state stays, and nothing is changed
 abbrev pub unless_started : ℕ → List ℕ → List ℕ → State → Settings → Started
 unless_started zero read written s S =
     record { number = 0; state = fresh_state S; maps = pair (replicate (length read) 0) (replicate (length written) 0) }

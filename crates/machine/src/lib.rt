@@ -66,6 +66,7 @@ fn size(w: Width) -> usize
     }
 }
 
+// Width and sign come apart, here and below: a store has no sign.
 fn loaded(w: Width, sign: bool, v: u32) -> u32
     ensures { result ≡ loaded_of w sign v }
 {
@@ -117,7 +118,7 @@ struct Slices<'m, 'b, 'a> {
 impl Slices<'_, '_, '_> {
     ghost use Rattle.machine.specs.Ends.{parts, Held, left, ended, after_end, attempt_end};
 
-    // The number in the N bytes at a.
+    // The number in the N bytes at a. Here and below the bytes asked for are within memory: a fact of the address, and not of the type.
     fn number<const N: usize>(&self, a: usize) -> u32
         requires width { N ≤ 4 }
         requires within { a + N ≤ length self.now.mem.now }
@@ -203,7 +204,7 @@ impl Slices<'_, '_, '_> {
         Ok(rules::only(rules::next(c)))
     }
 
-    // The instruction takes effect. Settings and lines come apart, here and below: `rules` asks for the one or the other.
+    // The instruction takes effect. Settings and lines come apart, here and below: but for `control`, `rules` asks for one of them.
     #[tactic(auto, unfolding(crate::specs::Ends::after_end))]
     fn finish(
         &mut self,

@@ -1,10 +1,10 @@
 -- A `Marks` in which accesses are marked holds the slices that it held.
 -- Assumes nothing.
-use Rattle.std.proofs.Common.{◌≡◌, refl, ◌∙◌, List, length}
+use Rattle.std.proofs.Common.{◌≡◌, refl, ◌∙◌, List, ℕ, ◌≤◌, length, arith}
 use Rattle.trace.specs.Access.{Access}
 use Rattle.trace.proofs.Marks.{mark-lengths}
 use Rattle.maps.specs.declared.Marks.{Marks}
-use Rattle.maps.specs.Both.{maps_of, marked}
+use Rattle.maps.specs.Both.{maps_of, HasRoom, marked}
 
 -- n holds the slices that m holds
 pub record Kept (m n : Marks) : Type 0 where
@@ -23,3 +23,9 @@ kept_on m n o x y = record {
   first_length = y.first_length ∙ x.first_length;
   written_length = y.written_length ∙ x.written_length;
 }
+
+-- and has room for as many addresses
+pub room_kept : (l : List Access) (m n : Marks) (a b : ℕ) → n ≡ marked l m → HasRoom m b → a ≤ b → HasRoom n a
+room_kept l m n a b e r h =
+    let k = kept_marked l m n e in
+    record { of_first = omega (arith, r.of_first, k.first_length); of_written = omega (arith, r.of_written, k.written_length); small = omega (arith, r.small) }

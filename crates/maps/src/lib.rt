@@ -1,4 +1,4 @@
-// Marks in the two lent maps. Each function asks that the maps that it is lent have a bit for each of its bytes.
+// Marks in the two lent maps. Each function but `wipe` asks that the maps that it is lent have a bit for each of its bytes.
 #![tactic(auto)]
 
 ghost use Rattle.std.specs.Prelude.{◌≡◌, ◌+◌, ◌-◌, ◌*◌, ◌/◌, ◌%◌, ◌^◌, ◌<◌, ◌≤◌, length, replicate};
@@ -28,19 +28,6 @@ fn set_bit(map: &mut [u8], k: usize)
     map[k / 8] |= 1u8 << (k % 8);
 }
 
-// The byte k is read: that leaves no mark where it was stored to before. The slices come apart: of a field that is passed on as a slice the
-// proof would not know the elements.
-#[tactic(auto, using(crate::proofs::Spans::read_written, crate::proofs::Spans::read_new))]
-fn read_byte(first: &mut [u8], written: &mut [u8], k: usize)
-    requires { Room first.old written.old (k + 1) }
-    ensures { pair first.new written.new ≡ mark (each reads k 1) (pair first.old written.old) }
-{
-    if bit_of(written, k) == 1 {
-        return;
-    }
-    set_bit(first, k);
-}
-
 // The two lent maps. Each method asks for room at its addresses, which is no fact of the maps alone, and so not of the type.
 #[derive(Drop)]
 pub struct Marks<'a> {
@@ -49,6 +36,26 @@ pub struct Marks<'a> {
 }
 
 impl<'a> Marks<'a> {
+    // A method of its own: of a field that a `&mut self` lends, a proof would not know the elements.
+    fn bit_written(&self, k: usize) -> u8
+        requires { k / 8 < length self.now.written.now }
+        ensures { result ≡ bit self.now.written.now k }
+    {
+        bit_of(self.written, k)
+    }
+
+    // The byte k is read: that leaves no mark where it was stored to before.
+    #[tactic(auto, using(crate::proofs::Spans::read_written, crate::proofs::Spans::read_new))]
+    fn read_byte(&mut self, k: usize)
+        requires { HasRoom self.old (k + 1) }
+        ensures { self.new ≡ marked (each reads k 1) self.old }
+    {
+        if self.bit_written(k) == 1 {
+            return;
+        }
+        set_bit(self.first, k);
+    }
+
     // The N bytes from k on are read.
     #[tactic(auto, using(crate::proofs::Spans::mark_more))]
     pub fn read<const N: usize>(&mut self, k: usize)
@@ -56,7 +63,7 @@ impl<'a> Marks<'a> {
         ensures { self.new ≡ marked (each reads k N) self.old }
     {
         for i in k..k + N {
-            read_byte(self.first, self.written, i);
+            self.read_byte(i);
         }
     }
 

@@ -1,4 +1,5 @@
-// Little-endian numbers in lent memory. Each function asks that its bytes are within the memory.
+// Little-endian numbers in lent memory. Each function asks that its bytes are within the memory: a fact of an address and a width, which the
+// type of a slice does not know, and so no invariant.
 #![tactic(auto)]
 
 ghost use Rattle.std.specs.Prelude.{◌≡◌, ◌+◌, ◌≤◌, length};

@@ -29,6 +29,7 @@ fn answer<R: Read>(input: &mut R) -> Page {
     let mut written = [0u8; 4096];
     let n = read_full(input, &mut bytes);
     if 32768 < n {
+        // by the paper's number, as `report::refusal` takes any
         return report::refusal(1);
     }
     let m = n / 8;
