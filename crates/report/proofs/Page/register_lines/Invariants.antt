@@ -6,6 +6,6 @@ use Rattle.report.proofs.Page.register_lines.Given as goal
 
 abbrev pub invariant-loop-i : goal.invariant-loop-i
 invariant-loop-i l = record {
-  written : l.self ≡ l.initial.self ++ register_lines l.i l.r;
+  written : l.self ≡ l.initial.self ++ register_lines l.i l.regs.r;
   short : length l.self ≤ length l.initial.self + 13 * l.i;
 }
