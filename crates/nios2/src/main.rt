@@ -36,8 +36,19 @@ fn answer<R: Read>(input: &mut R) -> Page {
     image::lines(&mut bytes[..n], &mut read[..m], &mut written[..m])
 }
 
+// Writes until all of buf is written, or a write takes nothing or fails, also where a signal interrupts it: `write_all` tries that again.
+fn write_full<W: Write>(output: &mut W, buf: &[u8]) {
+    let mut rest = buf;
+    while !rest.is_empty() {
+        match output.write(rest) {
+            Ok(0) | Err(_) => break,
+            Ok(n) => rest = &rest[n..],
+        }
+    }
+}
+
 // A write that fails ends the output, and changes nothing else.
 fn main(rt: HostRuntime) {
     let page = answer(&mut rt.stdin());
-    let _ = rt.stdout().write_all(page.as_bytes());
+    write_full(&mut rt.stdout(), page.as_bytes());
 }
