@@ -6,7 +6,8 @@ use lib.Dec.{eqb, leb}
 use Rattle.trace.specs.Access.{Access, reads, stores, each, number, put}
 use Rattle.trace.specs.Machine.{After, stop, finish, data_of, Attempt, halt, fetch}
 use Rattle.maps.specs.declared.Marks.{Marks}
-use Rattle.maps.specs.Both.{HasRoom, marked}
+use Rattle.maps.specs.Both.{marked}
+use Rattle.maps.specs.Pair.{Room}
 use Rattle.maps.proofs.Both.{kept_marked}
 use Rattle.machine.specs.Calls.{Lent}
 use Rattle.exec.specs.declared.Width.{Width}
@@ -65,8 +66,8 @@ bytes_range Byte = (omega arith, omega arith)
 bytes_range Half = (omega arith, omega arith)
 bytes_range Word = (omega arith, omega arith)
 
-pub room : (h : Slices) (n : ℕ) → n ≤ length h.mem.now → HasRoom h.marks.now n
-room h n g = record { of_first = omega (arith, h.fits.of_read, g); of_written = omega (arith, h.fits.of_written, g); small = omega (arith, h.fits.size, g) }
+pub room : (m read written : List ℕ) (n : ℕ) → Lent m read written → n ≤ length m → Room read written n
+room m read written n l h = record { of_first = omega (arith, l.of_read, h); of_written = omega (arith, l.of_written, h); small = omega (arith, l.size, h) }
 
 -- and after marks
 pub still_lent : (m : List ℕ) (p p' : Marks) (l : List Access) → p' ≡ marked l p → Lent m p.first.now p.written.now → Lent m p'.first.now p'.written.now
@@ -76,31 +77,36 @@ still_lent m p p' l e h =
 
 -- ---- loads and stores
 
+-- the code's test of the n bytes at a in the memory m, where n is a width
+module _ (m : List ℕ) (a : ℕ) (w : Width) (n : ℕ) (size : n ≡ bytes w) where
+  abbrev Test : Result (Unit {0}) Reason → Type 0
+  Test t = t ≡ within_of (length m) a n DataMisaligned DataPast
+
+  of_width : (t : Result (Unit {0}) Reason) → Test t → t ≡ within_of (length m) a (bytes w) DataMisaligned DataPast
+  of_width t e = e ∙ ap (λ (k : ℕ). within_of (length m) a k DataMisaligned DataPast) size
+
+  pub inside : (y : Unit {0}) → Test (Ok y) → a + bytes w ≤ length m
+  inside y e = not_past (length m) a (bytes w) DataMisaligned DataPast y (of_width (Ok y) e)
+
+  within_stops : (r : Reason) → Test (Err r) → (x : After ℕ Change) → within (length m) a w x ≡ stop (reason_number r)
+  within_stops r e x = barred (length m) a (bytes w) DataMisaligned DataPast x stop r (of_width (Err r) e)
+
+  within_goes : (y : Unit {0}) → Test (Ok y) → (x : After ℕ Change) → within (length m) a w x ≡ x
+  within_goes y e x = open_to (length m) a (bytes w) DataMisaligned DataPast x stop y (of_width (Ok y) e)
+
 module _ (u : Slices) (c : Core) (a : ℕ) (w : Width) (n : ℕ) (size : n ≡ bytes w) where
   abbrev Tested : Result (Unit {0}) Reason → Type 0
-  Tested t = t ≡ within_of (length u.mem.now) a n DataMisaligned DataPast
-
-  of_width : (t : Result (Unit {0}) Reason) → Tested t → t ≡ within_of (length u.mem.now) a (bytes w) DataMisaligned DataPast
-  of_width t e = e ∙ ap (λ (k : ℕ). within_of (length u.mem.now) a k DataMisaligned DataPast) size
-
-  pub inside : (y : Unit {0}) → Tested (Ok y) → a + bytes w ≤ length u.mem.now
-  inside y e = not_past (length u.mem.now) a (bytes w) DataMisaligned DataPast y (of_width (Ok y) e)
-
-  within_stops : (r : Reason) → Tested (Err r) → (x : After ℕ Change) → within (length u.mem.now) a w x ≡ stop (reason_number r)
-  within_stops r e x = barred (length u.mem.now) a (bytes w) DataMisaligned DataPast x stop r (of_width (Err r) e)
-
-  within_goes : (y : Unit {0}) → Tested (Ok y) → (x : After ℕ Change) → within (length u.mem.now) a w x ≡ x
-  within_goes y e x = open_to (length u.mem.now) a (bytes w) DataMisaligned DataPast x stop y (of_width (Ok y) e)
+  Tested = Test u.mem.now a w n size
 
   pub load_stops : (r : Reason) → Tested (Err r) → (d : ℕ) (s : Bool)
       → ended (Err r) u ≡ after_end (step.loads (length u.mem.now) c d a w s) u
   unfolding after_end
-  load_stops r e d s = rw (within_stops r e _)
+  load_stops r e d s = rw (within_stops u.mem.now a w n size r e _)
 
   pub store_stops : (r : Reason) → Tested (Err r) → (v : ℕ)
       → ended (Err r) u ≡ after_end (step.stores (length u.mem.now) c a w v) u
   unfolding after_end
-  store_stops r e v = rw (within_stops r e _)
+  store_stops r e v = rw (within_stops u.mem.now a w n size r e _)
 
   pub load_makes : (y : Unit {0}) → Tested (Ok y) → (d : ℕ) (s : Bool) (v x : ℕ) (core : Core) (h : Change) (u' : Slices)
       → v ≡ number u.mem.now a (bytes w) → parts u' ≡ left u u.mem.now (each reads a (bytes w))
@@ -108,7 +114,7 @@ module _ (u : Slices) (c : Core) (a : ℕ) (w : Width) (n : ℕ) (size : n ≡ b
       → ended (Ok h) u' ≡ after_end (step.loads (length u.mem.now) c d a w s) u
   unfolding after_end
   load_makes y e d s v x core h u' ev em ex ec eh =
-      rw (within_goes y e _, eh, ec, ex, ev) (ap (λ q. record { turn = Ok (writes d (loaded w s (number u.mem.now a (bytes w))) (next c)); slices = q }) em)
+      rw (within_goes u.mem.now a w n size y e _, eh, ec, ex, ev) (ap (λ q. record { turn = Ok (writes d (loaded w s (number u.mem.now a (bytes w))) (next c)); slices = q }) em)
 
   pub store_makes : (y : Unit {0}) → Tested (Ok y) → (v : ℕ) (core : Core) (h : Change) (u' : Slices)
       → parts u' ≡ left u (put u.mem.now a (bytes w) v) (each stores a (bytes w))
@@ -116,7 +122,7 @@ module _ (u : Slices) (c : Core) (a : ℕ) (w : Width) (n : ℕ) (size : n ≡ b
       → ended (Ok h) u' ≡ after_end (step.stores (length u.mem.now) c a w v) u
   unfolding after_end
   store_makes y e v core h u' em ec eh =
-      rw (within_goes y e _, eh, ec) (ap (λ q. record { turn = Ok (only (next c)); slices = q }) em)
+      rw (within_goes u.mem.now a w n size y e _, eh, ec) (ap (λ q. record { turn = Ok (only (next c)); slices = q }) em)
 
 -- `after_end` by the parts alone
 abbrev on_parts : After ℕ Change → Parts → End

@@ -14,7 +14,7 @@ returns-in_err-within c =
     rw (p.1, p.2) (load_stops c.args.self.now c.args.c c.args.at c.args.w c.size.result c.size.ensures _ (sym c.in_err-within.was ∙ c.within.ensures) c.args.dest c.args.sign)
 
 pub take-v-requires : goal.take-v-requires
-take-v-requires c = let h = inside c.args.self.now c.args.c c.args.at c.args.w c.size.result c.size.ensures _ (sym c.in_ok-within.was ∙ c.within.ensures) in h
+take-v-requires c = let h = inside c.args.self.now.mem.now c.args.at c.args.w c.size.result c.size.ensures _ (sym c.in_ok-within.was ∙ c.within.ensures) in h
 
 pub returns : goal.returns
 returns c = load_makes c.args.self.now c.args.c c.args.at c.args.w c.size.result c.size.ensures _ (sym c.in_ok-within.was ∙ c.within.ensures) c.args.dest c.args.sign _ _ _ _ c.take-v.new.self c.take-v.ensures.0 c.take-v.ensures.1 c.loaded.ensures c.next.ensures c.writes.ensures

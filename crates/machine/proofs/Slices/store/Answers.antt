@@ -14,7 +14,7 @@ returns-in_err-within c =
     rw (p.1, p.2) (store_stops c.args.self.now c.args.c c.args.at c.args.w c.size.result c.size.ensures _ (sym c.in_err-within.was ∙ c.within.ensures) c.args.v)
 
 pub give-requires : goal.give-requires
-give-requires c = let h = inside c.args.self.now c.args.c c.args.at c.args.w c.size.result c.size.ensures _ (sym c.in_ok-within.was ∙ c.within.ensures) in h
+give-requires c = let h = inside c.args.self.now.mem.now c.args.at c.args.w c.size.result c.size.ensures _ (sym c.in_ok-within.was ∙ c.within.ensures) in h
 
 pub returns : goal.returns
 returns c = store_makes c.args.self.now c.args.c c.args.at c.args.w c.size.result c.size.ensures _ (sym c.in_ok-within.was ∙ c.within.ensures) c.args.v _ _ c.give.new.self c.give.ensures c.next.ensures c.only.ensures
