@@ -31,3 +31,12 @@ module _ (a n : ℕ) (fits : a < 2 ^ 32) where
       (λ e. let s : a * 1 % 2 ^ 32 ≡ a / 1 = omega arith in rw (e, s, or_self) (omega arith))
       (λ f. let s : (32 - n % 32) % 32 ≡ 32 - n % 32 = omega (arith, f) in
       rw (s, or_comm, add_comm) (joined (n % 32) (32 - n % 32) a (omega arith) fits))
+
+-- to the right by n is to the left by what is left of 32
+pub right_by_left : (a n : ℕ) → a < 2 ^ 32 → rol_of a (32 - n % 32) ≡ ror_of a n
+unfolding rol_of ror_of
+right_by_left a n fits = by_cases (ℕ_discrete (n % 32) 0)
+    (λ e. rw (e) (omega arith))
+    (λ f. let s : (32 - n % 32) % 32 ≡ 32 - n % 32 = omega (arith, f) in
+    let t : 32 - (32 - n % 32) ≡ n % 32 = omega arith in
+    rw (s, t) (add_comm (a * 2 ^ (32 - n % 32) % 2 ^ 32) (a / 2 ^ (n % 32))))
