@@ -153,7 +153,7 @@ pub fn rol(a: u32, n: u32) -> u32
     a.rotate_left(n)
 }
 
-#[tactic(auto, using(crate::proofs::Turns::right))]
+#[tactic(auto, using(crate::proofs::Turns::right, crate::proofs::Turns::right_by_left))]
 pub fn ror(a: u32, n: u32) -> u32
     ensures { result ≡ ror_of a n }
 {
