@@ -21,19 +21,19 @@ fn read_full<R: Read>(input: &mut R, buf: &mut [u8]) -> usize
     done
 }
 
-// The lines of the image on the input. With no heap the buffers are fixed memory: they have room for the largest image, of 32,768
-// bytes, and its maps; a longer one is refused.
+// The lines of the image on the input. With no heap the buffer is fixed memory: its first half has room for the largest image, of 32,768
+// bytes, and its second, which such an image leaves free, for both maps. A longer image is refused.
 fn answer<R: Read>(input: &mut R) -> Page {
     let mut bytes = [0u8; 65536];
-    let mut read = [0u8; 4096];
-    let mut written = [0u8; 4096];
     let n = read_full(input, &mut bytes);
     if 32768 < n {
         // by the paper's number, as `report::refusal` takes any
         return report::refusal(1);
     }
+    let (mem, rest) = bytes.split_at_mut(32768);
+    let (read, written) = rest.split_at_mut(4096);
     let m = n / 8;
-    image::lines(&mut bytes[..n], &mut read[..m], &mut written[..m])
+    image::lines(&mut mem[..n], &mut read[..m], &mut written[..m])
 }
 
 // Writes until all of buf is written, or a write takes nothing or fails, also where a signal interrupts it: `write_all` tries that again.
